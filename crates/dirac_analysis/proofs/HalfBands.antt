@@ -4,7 +4,7 @@ use Rattle.std.specs.List.{All}
 use Rattle.dirac_common.specs.Table.{Table, table_at}
 use Rattle.dirac_common.proofs.Rows.{filled_at, rows_all}
 use Rattle.dirac_bands.specs.Interleaving.{band_of}
-use Rattle.dirac_lift.specs.Halves.{from_halves, place_of}
+use Rattle.dirac_lift.specs.Halves.{from_halves, place_in_halves}
 use Rattle.dirac_lift.specs.Level.{analysed}
 use Rattle.dirac_lift.proofs.HalfPlanes.{even_place, odd_place, place_even, place_odd}
 use Rattle.dirac_analysis.specs.Fits.{IsQuantisable}
@@ -12,7 +12,7 @@ use Rattle.dirac_analysis.specs.Halves.{half_columns}
 use Rattle.dirac_analysis.proofs.Fitting.{band_quantisable}
 use Rattle.dirac_analysis.proofs.OneLevel.{length-filled, level_grows}
 
-place_half : (w right from x : ℕ) → right ≤ 1 → from ≡ right * (w / 2) → place_of w (2 * x + right) ≡ from + x
+place_half : (w right from x : ℕ) → right ≤ 1 → from ≡ right * (w / 2) → place_in_halves w (2 * x + right) ≡ from + x
 place_half w zero from x one e = place_even w x (2 * x + 0) (omega arith) ∙ omega (arith, e)
 place_half w (suc zero) from x one e = place_odd w x (2 * x + 1) refl ∙ omega (arith, e)
 place_half w (suc (suc n)) from x one e = absurd (omega arith)

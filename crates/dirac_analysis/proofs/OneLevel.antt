@@ -11,7 +11,7 @@ use Rattle.dirac_common.proofs.Rows.{filled_at}
 use Rattle.dirac_bands.specs.Geometry.{lowest_size, padded_size}
 use Rattle.dirac_bands.specs.Interleaving.{band_of}
 use Rattle.dirac_bands.proofs.Undoing.{plane_again}
-use Rattle.dirac_lift.specs.Level.{analysed, begun, column, columns_by, level, row_in, rows_by, synthesised}
+use Rattle.dirac_lift.specs.Level.{analysed, first_doubled, column, columns_by, level, row_in, rows_by, synthesised}
 use Rattle.dirac_lift.specs.Places.{ColumnsBecome, RowsBecome}
 use Rattle.dirac_lift.specs.Wavelets.{analyse, analyse_bound, run, steps_of, taken_back}
 use Rattle.dirac_lift.proofs.ColumnLemmas.{column_at, length-column}
@@ -61,7 +61,7 @@ columns_become f t keeps len =
 
 -- a table whose rows are analysed
 abbrev rows_of : ℕ → Table → Table
-rows_of wavelet t = rows_by (analyse wavelet) (record t { values = begun wavelet t.values })
+rows_of wavelet t = rows_by (analyse wavelet) (record t { values = first_doubled wavelet t.values })
 
 pub length-analysed : (wavelet : ℕ) (t : Table) → length (analysed wavelet t).values ≡ t.width * t.height
 length-analysed wavelet t = length-filled t.width t.height (λ x y. get_or (analyse wavelet (column (rows_of wavelet t).values t.width t.height x)) y (pos 0))
@@ -71,8 +71,8 @@ unfolding analyse
 length-analyse wavelet xs = length-run (taken_back (steps_of wavelet)) xs
 
 -- the rows of a level become their analyses
-level_rows : (wavelet : ℕ) (t : Table) → length t.values ≡ t.width * t.height → RowsBecome (analyse wavelet) t.width t.height (begun wavelet t.values) (rows_of wavelet t).values
-level_rows wavelet t len = rows_become (analyse wavelet) (record t { values = begun wavelet t.values }) (length-analyse wavelet) (length-begun wavelet t.values ∙ len)
+level_rows : (wavelet : ℕ) (t : Table) → length t.values ≡ t.width * t.height → RowsBecome (analyse wavelet) t.width t.height (first_doubled wavelet t.values) (rows_of wavelet t).values
+level_rows wavelet t len = rows_become (analyse wavelet) (record t { values = first_doubled wavelet t.values }) (length-analyse wavelet) (length-begun wavelet t.values ∙ len)
 
 -- and then its columns
 level_columns : (wavelet : ℕ) (t : Table) → length t.values ≡ t.width * t.height → ColumnsBecome (run (taken_back (steps_of wavelet))) t.width t.height (rows_of wavelet t).values (analysed wavelet t).values
@@ -116,13 +116,13 @@ pub level_grows : (wavelet b depth : ℕ) (t : Table) → wavelet ≤ 6 → IsDi
 level_grows wavelet b depth t l is all =
     let even = sizes_even (suc depth) depth t refl is in
     let rows = level_rows wavelet t is.len in
-    let begins : length (begun wavelet t.values) ≡ t.width * t.height = length-begun wavelet t.values ∙ is.len in
+    let begins : length (first_doubled wavelet t.values) ≡ t.width * t.height = length-begun wavelet t.values ∙ is.len in
     elim (cases_eq t.width 0) [
       | inl none ↦ λ i d inside. absurd (omega (arith, inside, length-analysed wavelet t, ap (λ w. w * t.height) none))
       | inr some ↦
           all_weaker (analyse_bound (analyse_bound (2 * b))) (128 * b + 32) (analysed wavelet t).values (omega arith)
           (analyse_columns_grow (analyse_bound (2 * b)) wavelet t.width t.height (rows_of wavelet t).values (analysed wavelet t).values l even.1 (rows.len ∙ begins) (omega (arith, some)) (level_columns wavelet t is.len)
-          (analyse_rows_grow (2 * b) wavelet t.width t.height (begun wavelet t.values) (rows_of wavelet t).values l even.0 begins (omega (arith, some)) rows (begun_bound wavelet b t.values all)))
+          (analyse_rows_grow (2 * b) wavelet t.width t.height (first_doubled wavelet t.values) (rows_of wavelet t).values l even.0 begins (omega (arith, some)) rows (begun_bound wavelet b t.values all)))
     ]
 
 -- the synthesis of the bands

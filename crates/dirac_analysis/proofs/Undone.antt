@@ -11,7 +11,7 @@ use Rattle.dirac_common.specs.declared.formats.Kind.TheVariants.{Intra, Inter}
 use Rattle.dirac_common.specs.Table.{Table, filled, table_at}
 use Rattle.dirac_common.proofs.Rows.{filled_at}
 use Rattle.dirac_quant.specs.Quantiser.{factor_of, reduced, restored, restored_magnitude}
-use Rattle.dirac_bands.specs.DcSum.{dc_sum, prediction, IsDcSum}
+use Rattle.dirac_bands.specs.DcSum.{dc_sum, dc_prediction, IsDcSum}
 use Rattle.dirac_bands.specs.Interleaving.{band_of}
 use Rattle.dirac_bands.specs.Geometry.{padded_size}
 use Rattle.dirac_bands.proofs.Predictions.{is_sums, sums_determined}
@@ -27,7 +27,7 @@ use Rattle.dirac_synthesis.specs.Residual.{after_levels, cut, restored_among, su
 use Rattle.dirac_synthesis.proofs.LevelLemmas.{more_levels}
 use Rattle.dirac_synthesis.proofs.Sizes.{size_within}
 use Rattle.dirac_analysis.specs.Analysis.{coded_bands, coded_level, coded_lowest, differences, padded, plane_bands}
-use Rattle.dirac_analysis.specs.Coded.{coded, coded_by_one, index_coded, reduced_values}
+use Rattle.dirac_analysis.specs.Coded.{coded, coded_by_one, index_unless_zero, reduced_values}
 use Rattle.dirac_analysis.specs.Fits.{IsDivisible}
 use Rattle.dirac_analysis.specs.Laws.{PlanesAreKept}
 use Rattle.dirac_analysis.proofs.FinerBands.{coded_zero}
@@ -83,7 +83,7 @@ one_again kind counts t len =
     sym (value_kept kind t.values p)
     ∙ ap (λ i. restored (get_or (reduced_values 0 t) i (pos 0)) 0 kind) (sym (div-add-mod' p w))
     ∙ ap (λ i. restored (table_at b.table (p % w) (p / w)) i kind)
-    (sym (index_zero (counts.0 * counts.1) (index_coded 0 t) (codeblock_of h counts.1 (p / w) * counts.0 + codeblock_of w counts.0 (p % w)) (zero_index (is_zero_band (reduced_values 0 t))))) in
+    (sym (index_zero (counts.0 * counts.1) (index_unless_zero 0 t) (codeblock_of h counts.1 (p / w) * counts.0 + codeblock_of w counts.0 (p % w)) (zero_index (is_zero_band (reduced_values 0 t))))) in
     ap (λ (vs : List ℤ). record t { values = vs }) (sym (filled_by f t.values w h len each))
 
 -- a band coded at index 0
@@ -99,12 +99,12 @@ again v p = omega (arith, ints)
 -- a table is the sum of its differences
 pub differences_sum : (t : Table) → length t.values ≡ t.width * t.height → IsDcSum (differences t) t
 differences_sum t len =
-    let told : ℕ → ℕ → ℤ = λ x y. table_at t x y -ℤ prediction t x y in
+    let told : ℕ → ℕ → ℤ = λ x y. table_at t x y -ℤ dc_prediction t x y in
     record {
       width = refl;
       height = refl;
       len = len ∙ sym (length-filled t.width t.height told);
-      each = λ x y l k. again (table_at t x y) (prediction t x y) ∙ ap (λ v. v +ℤ prediction t x y) (sym (filled_at told t.width t.height x y l k));
+      each = λ x y l k. again (table_at t x y) (dc_prediction t x y) ∙ ap (λ v. v +ℤ dc_prediction t x y) (sym (filled_at told t.width t.height x y l k));
     }
 
 sums_again : (t : Table) → 1 ≤ t.width → length t.values ≡ t.width * t.height → dc_sum (differences t) ≡ t
@@ -118,8 +118,8 @@ moved_over a b c e = omega (arith, ints)
 -- what was subtracted from
 pub differences_are : (old new : Table) → 1 ≤ new.width → length new.values ≡ new.width * new.height → IsDcSum new old → new ≡ differences old
 differences_are old new some len sums =
-    table_is (λ x y. table_at old x y -ℤ prediction old x y) new old.width old.height (sym sums.width) (sym sums.height) (omega (arith, sums.width)) len
-    (λ x y p q. moved_over (table_at old x y) (table_at new x y) (prediction old x y) (sums.each x y (omega (arith, p, sums.width)) (omega (arith, q, sums.height))))
+    table_is (λ x y. table_at old x y -ℤ dc_prediction old x y) new old.width old.height (sym sums.width) (sym sums.height) (omega (arith, sums.width)) len
+    (λ x y p q. moved_over (table_at old x y) (table_at new x y) (dc_prediction old x y) (sums.each x y (omega (arith, p, sums.width)) (omega (arith, q, sums.height))))
 
 -- ---- the levels
 

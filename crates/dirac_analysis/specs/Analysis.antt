@@ -3,7 +3,7 @@ use Rattle.std.specs.Prelude.{ℕ, zero, suc, ◌-◌, ◌-ℤ◌, List, [], ◌
 use Rattle.dirac_common.specs.declared.formats.Kind.{Kind}
 use Rattle.dirac_common.specs.declared.formats.Kind.TheVariants.{Intra, Inter}
 use Rattle.dirac_common.specs.Table.{Table, table_at, table_of}
-use Rattle.dirac_bands.specs.DcSum.{prediction}
+use Rattle.dirac_bands.specs.DcSum.{dc_prediction}
 use Rattle.dirac_bands.specs.Geometry.{level_of, padded_size}
 use Rattle.dirac_bands.specs.Interleaving.{band_of}
 use Rattle.dirac_header.specs.Counts.{counts_at}
@@ -20,7 +20,7 @@ padded depth t =
 
 -- a table less the predictions of its values
 abbrev pub differences : Table → Table
-differences t = table_of t.width t.height (λ x y. table_at t x y -ℤ prediction t x y)
+differences t = table_of t.width t.height (λ x y. table_at t x y -ℤ dc_prediction t x y)
 
 -- HL, LH and HH of an analysed level
 abbrev pub coded_level : ℕ × ℕ → ℕ → ℕ → Table → List CodedBand

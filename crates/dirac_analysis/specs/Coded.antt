@@ -8,7 +8,7 @@ use Rattle.dirac_quant.specs.Quantiser.{reduced}
 use Rattle.dirac_bands.specs.Geometry.{edge_of}
 use Rattle.dirac_coeffs.specs.declared.layout.CodedBand.{CodedBand}
 use Rattle.dirac_coeffs.specs.Contexts.{is_zero}
-use Rattle.dirac_coeffs.specs.Layouts.{is_parted, span_of}
+use Rattle.dirac_coeffs.specs.Layouts.{is_parted, codeblock_extent}
 use Rattle.dirac_coeffs.specs.Written.{all_below, is_zero_band}
 use Rattle.dirac_synthesis.specs.Codeblocks.{codeblock_of}
 use Rattle.dirac_analysis.specs.declared.choosing.TheConstants.{FLAT_BELOW}
@@ -19,8 +19,8 @@ each_passes test counts t cy cx =
     all_below
     (λ i. all_below
     (λ j. test (table_at t (edge_of t.width counts.0 cx + i) (edge_of t.height counts.1 cy + j)))
-    (span_of t.height counts.1 cy))
-    (span_of t.width counts.0 cx)
+    (codeblock_extent t.height counts.1 cy))
+    (codeblock_extent t.width counts.0 cx)
 
 -- whether a coefficient is small
 abbrev pub is_small : ℤ → Bool
@@ -86,13 +86,13 @@ abbrev pub reduced_band : ℕ → Table → Table
 reduced_band index t = record { width = t.width; height = t.height; values = reduced_values index t }
 
 -- the index of a table whose codeblocks are all coded at this one: a band of zeros has index 0
-abbrev pub index_coded : ℕ → Table → ℕ
-index_coded index t = if is_zero_band (reduced_values index t) then 0 else index
+abbrev pub index_unless_zero : ℕ → Table → ℕ
+index_unless_zero index t = if is_zero_band (reduced_values index t) then 0 else index
 
 -- such a table coded, as in codeblock mode 0, and at index 0
 abbrev pub coded_by_one : ℕ × ℕ → ℕ → Table → CodedBand
 coded_by_one counts index t = record {
-  index = index_coded index t;
-  indices = replicate (counts.0 * counts.1) (index_coded index t);
+  index = index_unless_zero index t;
+  indices = replicate (counts.0 * counts.1) (index_unless_zero index t);
   table = record { width = t.width; height = t.height; values = reduced_values index t };
 }

@@ -1,5 +1,5 @@
 ghost use Rattle.std.specs.Prelude.{◌≡◌, [], ◌∷◌, ◌++◌, ◌*◌, ◌≤◌, length, IfOk};
-ghost use Rattle.dirac_lift.specs.Held.{held_table};
+ghost use Rattle.dirac_lift.specs.Held.{held_plane};
 
 use dirac_common::{Narrow, NoMemory, Wide};
 use dirac_lift::Held;
@@ -16,11 +16,11 @@ pub struct AnalysedBand {
 
 impl Model for AnalysedBand {
     ghost use Rattle.dirac_common.specs.Table.{Table};
-    ghost use Rattle.dirac_lift.specs.Held.{held_table};
+    ghost use Rattle.dirac_lift.specs.Held.{held_plane};
 
     ghost Value = { Table };
 
-    ghost view = { λ b. held_table b.held };
+    ghost view = { λ b. held_plane b.held };
 }
 
 impl AnalysedBand {
@@ -44,7 +44,7 @@ impl AnalysedBand {
 
     /// Lends its values as they are held.
     pub(crate) fn held(&self) -> &Held
-        ensures { held_table result.now ≡ self.now }
+        ensures { held_plane result.now ≡ self.now }
     {
         &self.held
     }

@@ -1,7 +1,7 @@
 ghost use Rattle.std.specs.Prelude.{◌≡◌, ◌-◌, ◌%◌, ◌≤◌, ◌^◌, unsigned_abs, IfOk};
 ghost use Rattle.std.specs.List.{All};
 ghost use Rattle.dirac_common.specs.Limits.{IsWavelet};
-ghost use Rattle.dirac_lift.specs.Held.{held_table};
+ghost use Rattle.dirac_lift.specs.Held.{held_plane};
 ghost use Rattle.dirac_analysis.specs.Analysis.{analysis_of, as_coded, differences};
 ghost use Rattle.dirac_analysis.specs.Fits.{AreQuantisable, IsDivisible, IsQuantisable, grown};
 ghost use Rattle.dirac_analysis.specs.Splitting.{AreFourBands, IsSplittable};
@@ -70,8 +70,8 @@ fn split_by_size(alloc: Global, plane: Narrow, wavelet: u8) -> Result<SplitLevel
 
 /// Analyses one level.
 fn split_level(alloc: Global, plane: Held, wavelet: u8) -> Result<SplitLevel, NoMemory>
-    requires { IsSplittable wavelet (held_table plane) }
-    ensures { IfOk result (AreFourBands wavelet (held_table plane)) }
+    requires { IsSplittable wavelet (held_plane plane) }
+    ensures { IfOk result (AreFourBands wavelet (held_plane plane)) }
 {
     match plane {
         Held::Narrow(plane) => split_by_size(alloc, plane, wavelet),
@@ -89,11 +89,11 @@ pub(crate) fn analyse_levels(
 ) -> Result<AnalysedPlane, NoMemory>
     requires wavelet { IsWavelet wavelet }
     requires depth { depth ≤ 4 }
-    requires across { (held_table plane).width ≤ LARGEST_TABLE_SIDE }
-    requires down { (held_table plane).height ≤ LARGEST_TABLE_SIDE }
-    requires divisible { IsDivisible depth (held_table plane) }
-    requires magnitudes_bounded { All (λ v. unsigned_abs v ≤ grown (4 - depth)) (held_table plane).values }
-    ensures value { IfOk result (λ a. a ≡ analysis_of kind wavelet (held_table plane) depth) }
+    requires across { (held_plane plane).width ≤ LARGEST_TABLE_SIDE }
+    requires down { (held_plane plane).height ≤ LARGEST_TABLE_SIDE }
+    requires divisible { IsDivisible depth (held_plane plane) }
+    requires magnitudes_bounded { All (λ v. unsigned_abs v ≤ grown (4 - depth)) (held_plane plane).values }
+    ensures value { IfOk result (λ a. a ≡ analysis_of kind wavelet (held_plane plane) depth) }
     ensures fits { IfOk result (AreQuantisable depth) }
 {
     if depth == 0 {

@@ -4,7 +4,7 @@ use Rattle.std.proofs.lemmas.Nat.{pow_pos, pow-add, shr_high, shr_split, mod-pow
 use Rattle.dirac_common.specs.Bits.{byte_bits, bits_of, number_from}
 use Rattle.dirac_arith.specs.Front.{front, first_bits}
 use Rattle.dirac_arith.specs.Tail.{bytes_from}
-use Rattle.dirac_arith.specs.Written.{bytes_of}
+use Rattle.dirac_arith.specs.Written.{number_in_bytes}
 use Rattle.dirac_arith.proofs.Fronts.{number_high, number_push, byte_value, twice_pow, rest_of}
 
 -- eight bits more for each byte
@@ -52,8 +52,8 @@ bytes_below (b ∷ bs) fits =
     rw (pow_byte (length bs)) (omega arith)
 
 -- bytes of the lower part of a number
-bytes_of_low : (n h r : ℕ) → bytes_of n (h * 2 ^ (8 * n) + r) ≡ bytes_of n r
-unfolding bytes_of
+bytes_of_low : (n h r : ℕ) → number_in_bytes n (h * 2 ^ (8 * n) + r) ≡ number_in_bytes n r
+unfolding number_in_bytes
 bytes_of_low zero h r = refl
 bytes_of_low (suc n) h r =
     let p = 2 ^ (8 * n) in
@@ -61,7 +61,7 @@ bytes_of_low (suc n) h r =
     let number : h * 2 ^ (8 * suc n) + r ≡ h * 256 * p + r = omega arith in
     let upper : (h * 256 * p + r) / p ≡ h * 256 + r / p = parted h r in
     let first : (h * 256 * p + r) / p % 256 ≡ r / p % 256 = rw upper (omega arith) in
-    rw number (ap (λ d. d ∷ bytes_of n (h * 256 * p + r)) first ∙ ap (λ ds. (r / p % 256) ∷ ds) (bytes_of_low n (h * 256) r)) where
+    rw number (ap (λ d. d ∷ number_in_bytes n (h * 256 * p + r)) first ∙ ap (λ ds. (r / p % 256) ∷ ds) (bytes_of_low n (h * 256) r)) where
       parted : (h r : ℕ) → (h * 256 * 2 ^ (8 * n) + r) / 2 ^ (8 * n) ≡ h * 256 + r / 2 ^ (8 * n)
       parted h r =
           let split = shr_split r (8 * n) in
@@ -70,8 +70,8 @@ bytes_of_low (suc n) h r =
           rw e (shr_high (h * 256 + r / 2 ^ (8 * n)) (8 * n) (r % 2 ^ (8 * n)) below)
 
 -- the bytes that hold the number of bytes are these
-pub bytes_of_number : (bs : List ℕ) → ((i : ℕ) → get_or bs i 0 < 256) → bytes_of (length bs) (bytes_from 0 bs) ≡ bs
-unfolding bytes_of
+pub bytes_of_number : (bs : List ℕ) → ((i : ℕ) → get_or bs i 0 < 256) → number_in_bytes (length bs) (bytes_from 0 bs) ≡ bs
+unfolding number_in_bytes
 bytes_of_number [] fits = refl
 bytes_of_number (b ∷ bs) fits =
     let p = 2 ^ (8 * length bs) in
@@ -80,23 +80,23 @@ bytes_of_number (b ∷ bs) fits =
     let byte : b < 256 = fits 0 in
     let upper : (b * p + bytes_from 0 bs) / p ≡ b = shr_high b (8 * length bs) (bytes_from 0 bs) below in
     let first : (b * p + bytes_from 0 bs) / p % 256 ≡ b = rw upper (mod-eq_of_lt byte) in
-    rw number (ap (λ d. d ∷ bytes_of (length bs) (b * p + bytes_from 0 bs)) first
+    rw number (ap (λ d. d ∷ number_in_bytes (length bs) (b * p + bytes_from 0 bs)) first
     ∙ ap (λ ds. b ∷ ds) (bytes_of_low (length bs) b (bytes_from 0 bs) ∙ bytes_of_number bs (λ i. fits (suc i))))
 
 -- the bits of the bytes of a number spell its lower part
-number_of_bytes : (high m n : ℕ) → number_from high (first_bits (bits_of (bytes_of m n)) (8 * m)) ≡ high * 2 ^ (8 * m) + n % 2 ^ (8 * m)
-unfolding bytes_of first_bits
+number_of_bytes : (high m n : ℕ) → number_from high (first_bits (bits_of (number_in_bytes m n)) (8 * m)) ≡ high * 2 ^ (8 * m) + n % 2 ^ (8 * m)
+unfolding number_in_bytes first_bits
 number_of_bytes high zero n = let e : high ≡ high * 1 + n % 1 = omega arith in e
 number_of_bytes high (suc m) n =
     let d = n / 2 ^ (8 * m) % 256 in
-    let rest = first_bits (bits_of (bytes_of m n)) (8 * m) in
+    let rest = first_bits (bits_of (number_in_bytes m n)) (8 * m) in
     let byte = byte_value d (mod_below (n / 2 ^ (8 * m)) 256 (omega arith)) in
     let value : number_from high (byte_bits d []) ≡ high * 256 + d = number_high high (byte_bits d []) ∙ ap (λ x. high * 256 + x) byte in
     let e : 8 * suc m ≡ suc (suc (suc (suc (suc (suc (suc (suc (8 * m)))))))) = omega arith in
     let split = mod-pow-add n 8 (8 * m) in
     let sum : 8 + 8 * m ≡ 8 * suc m = omega arith in
     let parted : n % 2 ^ (8 * suc m) ≡ d * 2 ^ (8 * m) + n % 2 ^ (8 * m) = rw sum at split in
-    ap (λ k. number_from high (first_bits (bits_of (d ∷ bytes_of m n)) k)) e
+    ap (λ k. number_from high (first_bits (bits_of (d ∷ number_in_bytes m n)) k)) e
     ∙ number_push high (byte_bits d []) rest
     ∙ ap (λ h. number_from h rest) value
     ∙ number_of_bytes (high * 256 + d) m n
@@ -106,13 +106,13 @@ number_of_bytes high (suc m) n =
     joined high d p r q s q_is s_is = rw q_is (omega arith)
 
 -- the front of the bytes of a number is the number
-pub front_of_bytes : (m n : ℕ) → n < 2 ^ (8 * m) → front (bytes_of m n) (8 * m) ≡ n
+pub front_of_bytes : (m n : ℕ) → n < 2 ^ (8 * m) → front (number_in_bytes m n) (8 * m) ≡ n
 unfolding front
 front_of_bytes m n below = number_of_bytes 0 m n ∙ omega (arith, mod-eq_of_lt below)
 
 -- so many bytes
-pub length-bytes_of : (m n : ℕ) → length (bytes_of m n) ≡ m
-unfolding bytes_of
+pub length-bytes_of : (m n : ℕ) → length (number_in_bytes m n) ≡ m
+unfolding number_in_bytes
 length-bytes_of zero n = refl
 length-bytes_of (suc m) n = ap suc (length-bytes_of m n)
 

@@ -8,11 +8,11 @@ use Rattle.dirac_common.specs.declared.faults.Cause.TheVariants as cause
 use Rattle.dirac_common.proofs.Digits.{digits_are, number_from-below, number_from-some}
 use Rattle.dirac_common.specs.Chain.{◌>>=◌}
 use Rattle.dirac_arith.specs.Carried.{Lies, Carries, lies_in}
-use Rattle.dirac_arith.specs.Deciding.{begin, after, after_all, truth_of, decided, number_from_digit, number_read, sign_read, signed_read, Gives}
+use Rattle.dirac_arith.specs.Deciding.{begin, after_decision, after_all, truth_of, decision_read, number_from_digit, number_read, sign_read, signed_read, GivesReading}
 use Rattle.dirac_arith.specs.Front.{front}
 use Rattle.dirac_arith.specs.Interval.{Interval, Decision, narrowed, narrowed_by, whole}
 use Rattle.dirac_arith.specs.Laws.{CarriesSomeTruth, CarriesSomeNumber, CarriesSomeSigned, DecisionIsRead, NumberIsRead, LongNumberIsRefused, SignedIsRead, LongSignedIsRefused, OnesReadToNothing}
-use Rattle.dirac_arith.specs.Reading.{Reading, Reads}
+use Rattle.dirac_arith.specs.Reading.{Reading, DecisionsAreRead}
 use Rattle.dirac_arith.specs.Spelling.{follow_at, spelt, spelling, signed_spelling}
 use Rattle.dirac_arith.proofs.Decidings.{some_truth, decided_open, decided_shut, decided_is, number_is, number_is_long, number_is_shut, signed_is_read, signed_is_long, signed_is_shut}
 use Rattle.dirac_arith.proofs.Fronts.{front_below}
@@ -163,20 +163,20 @@ led_by block common lies =
       some = λ here. let first = lies_first block whole common whole_tame here in let below = first.below in λ ones. omega arith;
     }
 
-pub is_led : (block : List ℕ) (common : List Decision) (r : Reading) → Reads (begin block) common r → IsLed r
+pub is_led : (block : List ℕ) (common : List Decision) (r : Reading) → DecisionsAreRead (begin block) common r → IsLed r
 is_led block common r reads = subst IsLed (sym reads.moved) (led_by block common reads.lies)
 
 -- what is read of a reading that decisions led to
-pub reads_of : (r s : Reading) (ds : List Decision) → s ≡ after_all r ds → Lies r.block (narrowed_by r.at ds) → Reads r ds s
+pub reads_of : (r s : Reading) (ds : List Decision) → s ≡ after_all r ds → Lies r.block (narrowed_by r.at ds) → DecisionsAreRead r ds s
 reads_of r s ds moved lies = record { moved = moved; lies = λ some. lies }
 
 -- where a decision stands, and that the front lies there
-pub decided_after : (context : ℕ) (truth : Bool) (old new : Reading) → front old.block 16 ≢ 0xFFFF → Lies old.block old.at → decided context old ≡ Ok (truth, new)
-    → (new ≡ after old (context, truth)) × Lies old.block (narrowed old.at (context, truth))
+pub decided_after : (context : ℕ) (truth : Bool) (old new : Reading) → front old.block 16 ≢ 0xFFFF → Lies old.block old.at → decision_read context old ≡ Ok (truth, new)
+    → (new ≡ after_decision old (context, truth)) × Lies old.block (narrowed old.at (context, truth))
 decided_after context truth old new some lies e =
     let t = truth_of context old in
-    let one = one_answer (decided context old) (truth, new) (t, after old (context, t)) e (decided_open context old some) in
-    let P : Bool → Type 0 = λ u. (new ≡ after old (context, u)) × Lies old.block (narrowed old.at (context, u)) in
+    let one = one_answer (decision_read context old) (truth, new) (t, after_decision old (context, t)) e (decided_open context old some) in
+    let P : Bool → Type 0 = λ u. (new ≡ after_decision old (context, u)) × Lies old.block (narrowed old.at (context, u)) in
     subst P (sym (ap (λ x. x.0) one)) (ap (λ x. x.1) one, some_truth old.block old.at context lies)
 
 pub decision_is_read : DecisionIsRead
@@ -195,7 +195,7 @@ not_shut r ds led some lies = led.some (lies_first r.block r.at ds led.tame (lie
 
 -- a number reads to a value, or it is refused, as the front allows
 pub number_reads : (r new : Reading) (follow : List ℕ) (bits v : ℕ) → IsLed r → front r.block 16 ≢ 0xFFFF
-    → number_read follow bits r ≡ Ok (v, new) → (v < 2 ^ 39 - 1) × Reads r (spelling follow bits v) new
+    → number_read follow bits r ≡ Ok (v, new) → (v < 2 ^ 39 - 1) × DecisionsAreRead r (spelling follow bits v) new
 number_reads r new follow bits v led some e =
     elim (some_number r.block r.at follow bits (led.lies some)) [
       | inl found ↦
@@ -203,14 +203,14 @@ number_reads r new follow bits v led some e =
           let one = one_answer (number_read follow bits r) (v, new) (w, after_all r (spelling follow bits w)) e (number_is follow bits w r led.tame some found.1 found.2) in
           let told : v ≡ w = ap (λ x. x.0) one in
           let moved : new ≡ after_all r (spelling follow bits w) = ap (λ x. x.1) one in
-          let P : ℕ → Type 0 = λ u. (u < 2 ^ 39 - 1) × Reads r (spelling follow bits u) new in
+          let P : ℕ → Type 0 = λ u. (u < 2 ^ 39 - 1) × DecisionsAreRead r (spelling follow bits u) new in
           subst P (sym told) (found.1, reads_of r new (spelling follow bits w) moved found.2)
       | inr long ↦
           absurd (no_answer (number_read follow bits r) (v, new) cause.NumberTooLong e (number_is_long follow bits long.0 r led.tame some long.1 long.2))
     ]
 
 pub number_breaks : (r : Reading) (follow : List ℕ) (bits : ℕ) → IsLed r → front r.block 16 ≢ 0xFFFF
-    → number_read follow bits r ≡ Err cause.NumberTooLong → (digits : List Bool) × (length digits ≡ 38) × ((new : Reading) × Reads r (spelt follow bits digits false) new)
+    → number_read follow bits r ≡ Err cause.NumberTooLong → (digits : List Bool) × (length digits ≡ 38) × ((new : Reading) × DecisionsAreRead r (spelt follow bits digits false) new)
 number_breaks r follow bits led some e =
     elim (some_number r.block r.at follow bits (led.lies some)) [
       | inl found ↦
@@ -221,7 +221,7 @@ number_breaks r follow bits led some e =
     ]
 
 pub signed_reads : (r new : Reading) (follow : List ℕ) (bits sign : ℕ) (v : ℤ) → IsLed r → front r.block 16 ≢ 0xFFFF
-    → signed_read follow bits sign r ≡ Ok (v, new) → (nat_abs v < 2 ^ 39 - 1) × Reads r (signed_spelling follow bits sign v) new
+    → signed_read follow bits sign r ≡ Ok (v, new) → (nat_abs v < 2 ^ 39 - 1) × DecisionsAreRead r (signed_spelling follow bits sign v) new
 signed_reads r new follow bits sign v led some e =
     elim (some_signed r.block r.at follow bits sign (led.lies some)) [
       | inl found ↦
@@ -229,14 +229,14 @@ signed_reads r new follow bits sign v led some e =
           let one = one_answer (signed_read follow bits sign r) (v, new) (w, after_all r (signed_spelling follow bits sign w)) e (signed_is_read follow bits sign w r led.tame some found.1 found.2) in
           let told : v ≡ w = ap (λ x. x.0) one in
           let moved : new ≡ after_all r (signed_spelling follow bits sign w) = ap (λ x. x.1) one in
-          let P : ℤ → Type 0 = λ u. (nat_abs u < 2 ^ 39 - 1) × Reads r (signed_spelling follow bits sign u) new in
+          let P : ℤ → Type 0 = λ u. (nat_abs u < 2 ^ 39 - 1) × DecisionsAreRead r (signed_spelling follow bits sign u) new in
           subst P (sym told) (found.1, reads_of r new (signed_spelling follow bits sign w) moved found.2)
       | inr long ↦
           absurd (no_answer (signed_read follow bits sign r) (v, new) cause.NumberTooLong e (signed_is_long follow bits sign long.0 r led.tame some long.1 long.2))
     ]
 
 pub signed_breaks : (r : Reading) (follow : List ℕ) (bits sign : ℕ) → IsLed r → front r.block 16 ≢ 0xFFFF
-    → signed_read follow bits sign r ≡ Err cause.NumberTooLong → (digits : List Bool) × (length digits ≡ 38) × ((new : Reading) × Reads r (spelt follow bits digits false) new)
+    → signed_read follow bits sign r ≡ Err cause.NumberTooLong → (digits : List Bool) × (length digits ≡ 38) × ((new : Reading) × DecisionsAreRead r (spelt follow bits digits false) new)
 signed_breaks r follow bits sign led some e =
     elim (some_signed r.block r.at follow bits sign (led.lies some)) [
       | inl found ↦
@@ -311,12 +311,12 @@ long_signed_is_refused block common old follow bits sign reads =
     )
 
 -- a decision is refused for ones alone
-decision_shut : (r : Reading) (context : ℕ) → (decided context r ≡ Err cause.CodeWord) ↔ (front r.block 16 ≡ 0xFFFF)
+decision_shut : (r : Reading) (context : ℕ) → (decision_read context r ≡ Err cause.CodeWord) ↔ (front r.block 16 ≡ 0xFFFF)
 decision_shut r context = (
   λ e.
       elim (cases_eq (front r.block 16) 0xFFFF) [
         | inl ones ↦ ones
-        | inr some ↦ absurd (no_answer (decided context r) (truth_of context r, after r (context, truth_of context r)) cause.CodeWord (decided_open context r some) e)
+        | inr some ↦ absurd (no_answer (decision_read context r) (truth_of context r, after_decision r (context, truth_of context r)) cause.CodeWord (decided_open context r some) e)
       ],
   decided_shut context r,
 )
@@ -335,9 +335,9 @@ digits_shut follow bits i (suc left) value r some e =
     elim (cases_Bool (truth_of (follow_at follow i) r)) [
       | inl is ↦ let f = rw is at e' in absurd (no_answer _ _ cause.CodeWord refl f)
       | inr is ↦
-          let open' = after r (follow_at follow i, false) in
+          let open' = after_decision r (follow_at follow i, false) in
           let f = rw (is, decided_open bits open' some) at e' in
-          digits_shut follow bits (i + 1) left (2 * value + bit_value (truth_of bits open')) (after open' (bits, truth_of bits open')) some f
+          digits_shut follow bits (i + 1) left (2 * value + bit_value (truth_of bits open')) (after_decision open' (bits, truth_of bits open')) some f
     ]
 
 -- the block stays the same
@@ -354,9 +354,9 @@ digits_block follow bits i (suc left) value r x some e =
     elim (cases_Bool (truth_of (follow_at follow i) r)) [
       | inl is ↦ let f = rw is at e' in ap (λ (y : ℕ × Reading). y.1.block) (one_answer _ x _ refl (sym f))
       | inr is ↦
-          let open' = after r (follow_at follow i, false) in
+          let open' = after_decision r (follow_at follow i, false) in
           let f = rw (is, decided_open bits open' some) at e' in
-          digits_block follow bits (i + 1) left (2 * value + bit_value (truth_of bits open')) (after open' (bits, truth_of bits open')) x some f
+          digits_block follow bits (i + 1) left (2 * value + bit_value (truth_of bits open')) (after_decision open' (bits, truth_of bits open')) x some f
     ]
 
 number_shuts : (r : Reading) (follow : List ℕ) (bits : ℕ) → (number_read follow bits r ≡ Err cause.CodeWord) ↔ (front r.block 16 ≡ 0xFFFF)
@@ -422,10 +422,10 @@ ones_read_to_nothing r follow context bits sign = (decision_shut r context, numb
 
 -- a decoder's answers, whose clauses tell what was read
 pub number_gives : (x : Result ℕ Cause) (a b : Reading) (follow : List ℕ) (bits : ℕ) → IsTame a.at
-    → IfOk x (λ w. Reads a (spelling follow bits w) b) → IfOk x (λ w. w < 2 ^ 39 - 1)
-    → (x ≡ Err cause.NumberTooLong → (digits : List Bool) × (length digits ≡ 38) × Reads a (spelt follow bits digits false) b)
+    → IfOk x (λ w. DecisionsAreRead a (spelling follow bits w) b) → IfOk x (λ w. w < 2 ^ 39 - 1)
+    → (x ≡ Err cause.NumberTooLong → (digits : List Bool) × (length digits ≡ 38) × DecisionsAreRead a (spelt follow bits digits false) b)
     → ((x ≡ Err cause.CodeWord) ↔ (front a.block 16 ≡ 0xFFFF))
-    → IfErr x (λ e. (e ≡ cause.CodeWord) ⊎ (e ≡ cause.NumberTooLong)) → Gives x b (number_read follow bits a)
+    → IfErr x (λ e. (e ≡ cause.CodeWord) ⊎ (e ≡ cause.NumberTooLong)) → GivesReading x b (number_read follow bits a)
 number_gives (Ok w) a b follow bits tame found most long refused only =
     let some : front a.block 16 ≢ 0xFFFF = λ ones. no_answer (Ok w) w cause.CodeWord refl (refused.1 ones) in
     number_is follow bits w a tame some most (found.lies (spelling_some follow bits w))
@@ -440,10 +440,10 @@ number_gives (Err e) a b follow bits tame found most long refused only =
     ]
 
 pub signed_gives : (x : Result ℤ Cause) (a b : Reading) (follow : List ℕ) (bits sign : ℕ) → IsTame a.at
-    → IfOk x (λ w. Reads a (signed_spelling follow bits sign w) b) → IfOk x (λ w. nat_abs w < 2 ^ 39 - 1)
-    → (x ≡ Err cause.NumberTooLong → (digits : List Bool) × (length digits ≡ 38) × Reads a (spelt follow bits digits false) b)
+    → IfOk x (λ w. DecisionsAreRead a (signed_spelling follow bits sign w) b) → IfOk x (λ w. nat_abs w < 2 ^ 39 - 1)
+    → (x ≡ Err cause.NumberTooLong → (digits : List Bool) × (length digits ≡ 38) × DecisionsAreRead a (spelt follow bits digits false) b)
     → ((x ≡ Err cause.CodeWord) ↔ (front a.block 16 ≡ 0xFFFF))
-    → IfErr x (λ e. (e ≡ cause.CodeWord) ⊎ (e ≡ cause.NumberTooLong)) → Gives x b (signed_read follow bits sign a)
+    → IfErr x (λ e. (e ≡ cause.CodeWord) ⊎ (e ≡ cause.NumberTooLong)) → GivesReading x b (signed_read follow bits sign a)
 signed_gives (Ok w) a b follow bits sign tame found most long refused only =
     let some : front a.block 16 ≢ 0xFFFF = λ ones. no_answer (Ok w) w cause.CodeWord refl (refused.1 ones) in
     signed_is_read follow bits sign w a tame some most (found.lies (signed_more follow bits sign w))

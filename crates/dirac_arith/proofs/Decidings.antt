@@ -7,9 +7,9 @@ use Rattle.dirac_common.specs.declared.faults.Cause.{Cause}
 use Rattle.dirac_common.specs.declared.faults.Cause.TheVariants as cause
 use Rattle.dirac_common.proofs.Digits.{digits_value, digits_few}
 use Rattle.dirac_arith.specs.Carried.{Lies, lies_in}
-use Rattle.dirac_arith.specs.Deciding.{after, after_all, truth_of, decided, number_from_digit, number_read, sign_read, signed_read}
+use Rattle.dirac_arith.specs.Deciding.{after_decision, after_all, truth_of, decision_read, number_from_digit, number_read, sign_read, signed_read}
 use Rattle.dirac_arith.specs.Front.{front}
-use Rattle.dirac_arith.specs.Interval.{Interval, Decision, doublings_for, split_at, kept, widened, narrowed, narrowed_by}
+use Rattle.dirac_arith.specs.Interval.{Interval, Decision, doublings_for, split_width, interval_kept, widened, narrowed, narrowed_by}
 use Rattle.dirac_arith.specs.Reading.{Reading}
 use Rattle.dirac_arith.specs.Spelling.{follow_at, spelt, spelling, signed_spelling}
 use Rattle.dirac_arith.proofs.Fronts.{front_longer, rest_below}
@@ -50,9 +50,9 @@ some_part : (block : List ℕ) (s : Interval) (context : ℕ) → Lies block s �
 some_part block s context lies =
     let above = lies.above in
     let below = lies.below in
-    elim (cases_lt (front block (16 + s.doublings)) (s.low + split_at s context)) [
-      | inl under ↦ inr (widened_lies block (kept s context false) (record { above = above; below = under }))
-      | inr over ↦ inl (widened_lies block (kept s context true) (record { above = over; below = omega arith }))
+    elim (cases_lt (front block (16 + s.doublings)) (s.low + split_width s context)) [
+      | inl under ↦ inr (widened_lies block (interval_kept s context false) (record { above = above; below = under }))
+      | inr over ↦ inl (widened_lies block (interval_kept s context true) (record { above = over; below = omega arith }))
     ]
 
 pub some_truth : (block : List ℕ) (s : Interval) (context : ℕ) → Lies block s → Lies block (narrowed s (context, lies_in block (narrowed s (context, true))))
@@ -77,17 +77,17 @@ truth_is r context false lies =
       | inr is ↦ is
     ]
 
-pub decided_open : (context : ℕ) (r : Reading) → front r.block 16 ≢ 0xFFFF → decided context r ≡ Ok (truth_of context r, after r (context, truth_of context r))
-unfolding decided
+pub decided_open : (context : ℕ) (r : Reading) → front r.block 16 ≢ 0xFFFF → decision_read context r ≡ Ok (truth_of context r, after_decision r (context, truth_of context r))
+unfolding decision_read
 decided_open context r some = rw (ne_eqb (front r.block 16) 0xFFFF some) refl
 
-pub decided_shut : (context : ℕ) (r : Reading) → front r.block 16 ≡ 0xFFFF → decided context r ≡ Err cause.CodeWord
-unfolding decided
+pub decided_shut : (context : ℕ) (r : Reading) → front r.block 16 ≡ 0xFFFF → decision_read context r ≡ Err cause.CodeWord
+unfolding decision_read
 decided_shut context r ones = rw (eq-eqb (front r.block 16) 0xFFFF ones) refl
 
-pub decided_is : (context : ℕ) (t : Bool) (r : Reading) → front r.block 16 ≢ 0xFFFF → Lies r.block (narrowed r.at (context, t)) → decided context r ≡ Ok (t, after r (context, t))
+pub decided_is : (context : ℕ) (t : Bool) (r : Reading) → front r.block 16 ≢ 0xFFFF → Lies r.block (narrowed r.at (context, t)) → decision_read context r ≡ Ok (t, after_decision r (context, t))
 decided_is context t r some lies =
-    let make : Bool → Result (Bool × Reading) Cause = λ u. Ok (u, after r (context, u)) in
+    let make : Bool → Result (Bool × Reading) Cause = λ u. Ok (u, after_decision r (context, u)) in
     decided_open context r some ∙ ap make (truth_is r context t lies)
 
 -- a number whose digits and last follow decision a block carries is read
@@ -99,8 +99,8 @@ number_digits [] follow bits i zero value r tame some few lies = rw (decided_is 
 number_digits [] follow bits i (suc left) value r tame some few lies = rw (decided_is (follow_at follow i) true r some lies) refl
 number_digits (b ∷ bs) follow bits i zero value r tame some few lies = absurd (omega arith)
 number_digits (b ∷ bs) follow bits i (suc left) value r tame some few lies =
-    let open' = after r (follow_at follow i, false) in
-    let next = after open' (bits, b) in
+    let open' = after_decision r (follow_at follow i, false) in
+    let next = after_decision open' (bits, b) in
     let rest = spelt_from follow bits (i + 1) bs true [] in
     let tame' = tame_narrowed r.at (follow_at follow i) false tame in
     let tame'' = tame_narrowed open'.at bits b tame' in
@@ -118,8 +118,8 @@ number_long [] follow bits i zero value r tame some few lies = rw (decided_is (f
 number_long [] follow bits i (suc left) value r tame some few lies = absurd (omega arith)
 number_long (b ∷ bs) follow bits i zero value r tame some few lies = absurd (omega arith)
 number_long (b ∷ bs) follow bits i (suc left) value r tame some few lies =
-    let open' = after r (follow_at follow i, false) in
-    let next = after open' (bits, b) in
+    let open' = after_decision r (follow_at follow i, false) in
+    let next = after_decision open' (bits, b) in
     let rest = spelt_from follow bits (i + 1) bs false [] in
     let tame' = tame_narrowed r.at (follow_at follow i) false tame in
     let tame'' = tame_narrowed open'.at bits b tame' in

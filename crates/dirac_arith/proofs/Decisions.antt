@@ -4,11 +4,11 @@ use Rattle.std.proofs.lemmas.Bool.{both_ways, cases_lt, cases_eq}
 use Rattle.std.proofs.lemmas.List.{get_or_past}
 use Rattle.dirac_arith.specs.declared.decoder.Decoder.TheInside.{Inside}
 use Rattle.dirac_arith.specs.declared.registers.Registers.{Registers}
-use Rattle.dirac_arith.specs.Interval.{Interval, adapted, doublings_for, split_at, narrowed, contexts_after}
+use Rattle.dirac_arith.specs.Interval.{Interval, adapted, doublings_for, split_width, narrowed, contexts_after}
 use Rattle.dirac_arith.specs.Carried.{Lies}
-use Rattle.dirac_arith.specs.Deciding.{decided}
+use Rattle.dirac_arith.specs.Deciding.{decision_read}
 use Rattle.dirac_arith.specs.Reading.{Reading}
-use Rattle.dirac_arith.specs.Registers.{Stands, Runs, Settles, low_of, doublings_of, part_of, lift_of, AreProbabilities}
+use Rattle.dirac_arith.specs.Registers.{Stands, Runs, Settles, low_of, doublings_of, part_width, lift_of, AreProbabilities}
 use Rattle.dirac_arith.specs.Decoding.{IsSound, reading}
 use Rattle.dirac_common.specs.declared.faults.Cause.{Cause}
 use Rattle.dirac_arith.proofs.Decidings.{decided_is}
@@ -37,8 +37,8 @@ probabilities_set contexts context probability some most all i below =
 -- the view of a decoder after a decision
 pub moves : (a : Inside) (context : ℕ) (truth : Bool) (r : Registers) (contexts : List ℕ)
     → let s = (reading a).at in
-    let part = part_of s.range (split_at s context) truth in
-    Stands a.block.now r ((s.low + lift_of (split_at s context) truth) * 2 ^ doublings_for part) (s.doublings + doublings_for part)
+    let part = part_width s.range (split_width s context) truth in
+    Stands a.block.now r ((s.low + lift_of (split_width s context) truth) * 2 ^ doublings_for part) (s.doublings + doublings_for part)
     → r.range ≡ part * 2 ^ doublings_for part
     → contexts ≡ contexts_after s context truth
     → reading (record { block = a.block; registers = r; contexts = contexts; refused = a.refused }) ≡ record { block = a.block.now; at = narrowed s (context, truth) }
@@ -51,8 +51,8 @@ moves a context truth r contexts stands range after =
 -- the front lies in the interval that the decision kept
 pub lies_moved : (a : Inside) (context : ℕ) (truth : Bool) (r : Registers) (contexts : List ℕ)
     → let s = (reading a).at in
-    let part = part_of s.range (split_at s context) truth in
-    Stands a.block.now r ((s.low + lift_of (split_at s context) truth) * 2 ^ doublings_for part) (s.doublings + doublings_for part)
+    let part = part_width s.range (split_width s context) truth in
+    Stands a.block.now r ((s.low + lift_of (split_width s context) truth) * 2 ^ doublings_for part) (s.doublings + doublings_for part)
     → r.range ≡ part * 2 ^ doublings_for part
     → contexts ≡ contexts_after s context truth
     → r.window < r.range * 2 ^ r.ahead
@@ -97,13 +97,13 @@ pub record Taken (a : Inside) (context : ℕ) (truth : Bool) (r : Registers) (co
   pub moved : reading (record { block = a.block; registers = r; contexts = contexts; refused = a.refused })
       ≡ record { block = a.block.now; at = narrowed (reading a).at (context, truth) }
   pub lies : Lies a.block.now (narrowed (reading a).at (context, truth))
-  pub read : decided context (reading a) ≡ Ok (truth, reading (record { block = a.block; registers = r; contexts = contexts; refused = a.refused }))
+  pub read : decision_read context (reading a) ≡ Ok (truth, reading (record { block = a.block; registers = r; contexts = contexts; refused = a.refused }))
   pub few_doublings : doublings_of r ≤ doublings_of a.registers + 9
 
 -- a decision that settles the registers, which are filled behind it
 pub taken : (a : Inside) (context : ℕ) (truth : Bool) (mid r : Registers) (probability : ℕ)
     → Runs a.block.now a.registers
-    → Settles a.registers (split_at (reading a).at context) truth mid
+    → Settles a.registers (split_width (reading a).at context) truth mid
     → ((low k : ℕ) → Stands a.block.now mid low k → Stands a.block.now r low k) → r.range ≡ mid.range → 9 ≤ r.ahead → r.ahead ≤ 48
     → ((range : ℕ) → mid.window < range * 2 ^ mid.ahead → r.window < range * 2 ^ r.ahead)
     → probability ≡ adapted (slice_index a.contexts context) truth

@@ -4,16 +4,16 @@ use Rattle.std.proofs.Math.Nat.{pow-le-pow_right}
 use Rattle.std.proofs.lemmas.Nat.{pow_pos, pow-add, leading_top, le-div, div_below, mul-le}
 use Rattle.std.proofs.lemmas.Bool.{cases_lt, lt-ltb, le-ltb, cond-true, cond-false}
 use Rattle.std.specs.Int.Count.{count_leading_zeros}
-use Rattle.dirac_arith.specs.Interval.{least, doublings_for}
+use Rattle.dirac_arith.specs.Interval.{least_passing, doublings_for}
 use Rattle.dirac_arith.proofs.Fronts.{twice_pow}
 
 -- the least number that passes is the one that none below it does
-pub least_is : (p : ℕ → Bool) (limit i : ℕ) → i ≤ limit → ((j : ℕ) → j < i → p j ≡ false) → p i ≡ true → least p limit ≡ i
+pub least_is : (p : ℕ → Bool) (limit i : ℕ) → i ≤ limit → ((j : ℕ) → j < i → p j ≡ false) → p i ≡ true → least_passing p limit ≡ i
 least_is p zero zero most none here = refl
 least_is p zero (suc i) most none here = absurd (omega arith)
-least_is p (suc limit) zero most none here = cond-true (p 0) 0 (suc (least (λ i. p (suc i)) limit)) here
+least_is p (suc limit) zero most none here = cond-true (p 0) 0 (suc (least_passing (λ i. p (suc i)) limit)) here
 least_is p (suc limit) (suc i) most none here =
-    cond-false (p 0) 0 (suc (least (λ i. p (suc i)) limit)) (none 0 (omega arith))
+    cond-false (p 0) 0 (suc (least_passing (λ i. p (suc i)) limit)) (none 0 (omega arith))
     ∙ ap suc (least_is (λ i. p (suc i)) limit i (omega arith) (λ j h. none (suc j) (omega arith)) here)
 
 -- the least power of two that takes a range between two powers above 0x4000

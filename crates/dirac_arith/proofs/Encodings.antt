@@ -13,11 +13,11 @@ use Rattle.dirac_common.specs.Numbers.{digits_of}
 use Rattle.dirac_common.proofs.Digits.{digits_push, bit_value-of_rest}
 use Rattle.dirac_arith.specs.Carried.{Lies}
 use Rattle.dirac_arith.specs.Front.{front}
-use Rattle.dirac_arith.specs.Interval.{Interval, Decision, InContexts, doublings_for, narrowed, narrowed_by, whole, interval_of, split_at, adapted}
+use Rattle.dirac_arith.specs.Interval.{Interval, Decision, InContexts, doublings_for, narrowed, narrowed_by, whole, interval_of, split_width, adapted}
 use Rattle.dirac_arith.specs.Laws.{FlushedIsCarried}
 use Rattle.dirac_arith.specs.Registers.{AreProbabilities}
-use Rattle.dirac_arith.specs.Spelling.{follow_at, opening, spelt, spelling, signed_spelling}
-use Rattle.dirac_arith.specs.Written.{bytes_of, block_length, flushed, flush}
+use Rattle.dirac_arith.specs.Spelling.{follow_at, opening_digits, spelt, spelling, signed_spelling}
+use Rattle.dirac_arith.specs.Written.{number_in_bytes, block_length, flushed_interval, flush}
 use Rattle.dirac_arith.proofs.Bytes.{front_of_bytes, length-bytes_of, rest_past}
 use Rattle.dirac_arith.proofs.Decisions.{probabilities_set}
 use Rattle.dirac_arith.proofs.Doublings.{widens, split_bounds}
@@ -54,19 +54,19 @@ pub good_narrowed : (s : Interval) (context : ℕ) (t : Bool) → context < 38 �
 good_narrowed s context true there good =
     let probability = slice_index s.contexts context in
     let bounds = split_bounds s.range probability good.wide good.narrow (good.probabilities context there).0 (good.probabilities context there).1 in
-    let part = s.range - split_at s context in
+    let part = s.range - split_width s context in
     let moved = widens part (omega arith) (omega (arith, good.narrow)) in
     let kept = adapts probability true (good.probabilities context there).0 (good.probabilities context there).1 in
     record {
       wide = moved.wide;
       narrow = moved.narrow;
-      within = kept_within s.low s.range s.doublings (split_at s context) part (doublings_for part) (omega arith) good.within;
+      within = kept_within s.low s.range s.doublings (split_width s context) part (doublings_for part) (omega arith) good.within;
       probabilities = probabilities_set s.contexts context (adapted probability true) kept.some kept.most good.probabilities;
     }
 good_narrowed s context false there good =
     let probability = slice_index s.contexts context in
     let bounds = split_bounds s.range probability good.wide good.narrow (good.probabilities context there).0 (good.probabilities context there).1 in
-    let part = split_at s context in
+    let part = split_width s context in
     let moved = widens part (omega arith) (omega (arith, good.narrow)) in
     let kept = adapts probability false (good.probabilities context there).0 (good.probabilities context there).1 in
     let here = kept_within s.low s.range s.doublings 0 part (doublings_for part) (omega arith) good.within in
@@ -100,7 +100,7 @@ begun_narrowed : (s : Interval) (context : ℕ) (t : Bool) → context < 38 → 
 begun_narrowed s context true there good none =
     let probability = slice_index s.contexts context in
     let bounds = split_bounds s.range probability good.wide good.narrow (good.probabilities context there).0 (good.probabilities context there).1 in
-    let part = s.range - split_at s context in
+    let part = s.range - split_width s context in
     let still : doublings_for part ≡ 0 = omega arith in
     let P : ℕ → Type 0 = λ j. part * 2 ^ j < 0xFFFF in
     let below : part * 1 < 0xFFFF = omega (arith, good.narrow) in
@@ -108,7 +108,7 @@ begun_narrowed s context true there good none =
 begun_narrowed s context false there good none =
     let probability = slice_index s.contexts context in
     let bounds = split_bounds s.range probability good.wide good.narrow (good.probabilities context there).0 (good.probabilities context there).1 in
-    let part = split_at s context in
+    let part = split_width s context in
     let still : doublings_for part ≡ 0 = omega arith in
     let P : ℕ → Type 0 = λ j. part * 2 ^ j < 0xFFFF in
     let below : part * 1 < 0xFFFF = omega (arith, good.narrow) in
@@ -126,7 +126,7 @@ flush_of_fresh (d ∷ ds) there full none =
     let begun = begun_by (narrowed whole d) ds there.1 (good_narrowed whole d.0 d.1 there.0 whole_good) (begun_narrowed whole d.0 d.1 there.0 whole_good) in
     absurd (omega (arith, begun none))
 
-pub flush_of_begun : (ds : List Decision) → ((interval_of ds).range ≡ 0xFFFF → (interval_of ds).doublings ≡ 0 → ⊥) → flushed (interval_of ds) ≡ flush ds
+pub flush_of_begun : (ds : List Decision) → ((interval_of ds).range ≡ 0xFFFF → (interval_of ds).doublings ≡ 0 → ⊥) → flushed_interval (interval_of ds) ≡ flush ds
 flush_of_begun [] begun = absurd (begun refl refl)
 flush_of_begun (d ∷ ds) begun = refl
 
@@ -140,8 +140,8 @@ quotient_more x j =
 
 -- the bytes that an encoder has once it moved its low end to the last number and doubled up to a whole byte
 pub bytes_of_last : (s : Interval) (gap : ℕ) → 2 ≤ gap → gap ≤ 9 → s.doublings + gap ≡ 8 * ((s.doublings + 9) / 8) → 2 ^ (16 - gap) ≤ s.range
-    → bytes_of ((s.doublings + gap) / 8) ((s.low + (s.range - 2 ^ (16 - gap))) * 2 ^ gap / 65536) ≡ flushed s
-unfolding flushed
+    → number_in_bytes ((s.doublings + gap) / 8) ((s.low + (s.range - 2 ^ (16 - gap))) * 2 ^ gap / 65536) ≡ flushed_interval s
+unfolding flushed_interval
 bytes_of_last s gap some most is room =
     let j = 16 - gap in
     let m = block_length s.doublings in
@@ -157,20 +157,20 @@ bytes_of_last s gap some most is room =
     let total : x + 2 ^ j ≡ s.low + s.range = omega arith in
     let last = rw total at more in
     let q : (s.low + s.range) / 2 ^ j - 1 ≡ x / 2 ^ j = omega arith in
-    ap (λ k. bytes_of k (x * 2 ^ gap / 65536)) count
-    ∙ ap (bytes_of m) (number ∙ sym q)
-    ∙ ap (λ k. bytes_of m ((s.low + s.range) / 2 ^ k - 1)) (sym exponent)
+    ap (λ k. number_in_bytes k (x * 2 ^ gap / 65536)) count
+    ∙ ap (number_in_bytes m) (number ∙ sym q)
+    ∙ ap (λ k. number_in_bytes m ((s.low + s.range) / 2 ^ k - 1)) (sym exponent)
 
 -- the front of the written bytes lies in the interval
-flushed_lies : (s : Interval) → IsGood s → Lies (flushed s) s
-unfolding flushed
+flushed_lies : (s : Interval) → IsGood s → Lies (flushed_interval s) s
+unfolding flushed_interval
 flushed_lies s good =
     let k = s.doublings in
     let m = block_length k in
     let j = 16 + k - 8 * m in
     let x = s.low + s.range in
     let n = x / 2 ^ j - 1 in
-    let block = bytes_of m n in
+    let block = number_in_bytes m n in
     let place : 16 + k ≡ 8 * m + j = omega arith in
     let small = pow-le-pow_right {n = 2} (omega arith) {i = j} {j = 14} (omega arith) in
     let positive = pow_pos j in
@@ -233,15 +233,15 @@ prefix_next wide count i more most above below =
 
 -- a false follow decision and a digit
 pub taken_digit : (s a b c : Interval) (follow : List ℕ) (bits context i : ℕ) (digits : List Bool) (bit : Bool)
-    → a ≡ narrowed_by s (opening follow bits 0 digits) → length digits ≡ i → context ≡ follow_at follow i
+    → a ≡ narrowed_by s (opening_digits follow bits 0 digits) → length digits ≡ i → context ≡ follow_at follow i
     → b ≡ narrowed a (context, false) → c ≡ narrowed b (bits, bit)
-    → c ≡ narrowed_by s (opening follow bits 0 (digits ++ bit ∷ []))
+    → c ≡ narrowed_by s (opening_digits follow bits 0 (digits ++ bit ∷ []))
 taken_digit s a b c follow bits context i digits bit a_is count is b_is c_is =
     let f : Decision = (follow_at follow (0 + length digits), false) in
     let d : Decision = (bits, bit) in
     let zero_more : i ≡ 0 + length digits = omega arith in
     let same : context ≡ follow_at follow (0 + length digits) = is ∙ ap (follow_at follow) zero_more in
-    let first = opening follow bits 0 digits in
+    let first = opening_digits follow bits 0 digits in
     c_is
     ∙ ap (λ x. narrowed x (bits, bit)) (b_is ∙ ap (λ x. narrowed a (x, false)) same ∙ ap (λ x. narrowed x f) a_is)
     ∙ ap (λ x. narrowed x d) (sym (narrowed_by-append s first (f ∷ [])))
@@ -250,13 +250,13 @@ taken_digit s a b c follow bits context i digits bit a_is count is b_is c_is =
 
 -- the last follow decision
 pub taken_last : (s a b : Interval) (follow : List ℕ) (bits context i v w : ℕ)
-    → a ≡ narrowed_by s (opening follow bits 0 (digits_of w)) → length (digits_of w) ≡ i → context ≡ follow_at follow i → w ≡ v
+    → a ≡ narrowed_by s (opening_digits follow bits 0 (digits_of w)) → length (digits_of w) ≡ i → context ≡ follow_at follow i → w ≡ v
     → b ≡ narrowed a (context, true) → b ≡ narrowed_by s (spelling follow bits v)
 unfolding spelling
 taken_last s a b follow bits context i v w a_is count is same b_is =
     let l : Decision = (follow_at follow (length (digits_of w)), true) in
     let place : context ≡ follow_at follow (length (digits_of w)) = is ∙ ap (follow_at follow) (sym count) in
-    let first = opening follow bits 0 (digits_of w) in
+    let first = opening_digits follow bits 0 (digits_of w) in
     b_is ∙ ap (λ x. narrowed a (x, true)) place ∙ ap (λ x. narrowed x l) a_is
     ∙ sym (narrowed_by-append s first (l ∷ []))
     ∙ ap (λ x. narrowed_by s (spelt follow bits (digits_of x) true)) same
@@ -294,18 +294,18 @@ pub part_some : (part k n : ℕ) → 0x4000 < n → n ≡ part * 2 ^ k → 1 ≤
 part_some zero k n wide is = absurd (omega arith)
 part_some (suc part) k n wide is = omega arith
 
-pub bytes_none : (d n : ℕ) → d ≡ 0 → bytes_of (d / 8) n ≡ []
-unfolding bytes_of
-bytes_none d n none = let P : ℕ → Type 0 = λ x. bytes_of (x / 8) n ≡ [] in subst P (sym none) refl
+pub bytes_none : (d n : ℕ) → d ≡ 0 → number_in_bytes (d / 8) n ≡ []
+unfolding number_in_bytes
+bytes_none d n none = let P : ℕ → Type 0 = λ x. number_in_bytes (x / 8) n ≡ [] in subst P (sym none) refl
 
 -- a block's bytes are below 256
-in_bytes : (m n : ℕ) → AllByRecursion (λ b. b < 2 ^ 8) (bytes_of m n)
-unfolding bytes_of
+in_bytes : (m n : ℕ) → AllByRecursion (λ b. b < 2 ^ 8) (number_in_bytes m n)
+unfolding number_in_bytes
 in_bytes zero n = tt
 in_bytes (suc m) n = (mod-lt (n / 2 ^ (8 * m)) {m = 256} (lit< tt), in_bytes m n)
 
 pub flush_bytes : (ds : List Decision) → AllByRecursion (λ b. b < 2 ^ 8) (flush ds)
-unfolding flushed
+unfolding flushed_interval
 flush_bytes [] = tt
 flush_bytes (d ∷ ds) =
     let s = interval_of (d ∷ ds) in

@@ -4,9 +4,9 @@ use Rattle.std.proofs.lemmas.Bool.{cases_lt}
 use Rattle.std.proofs.lemmas.Nat.{shl-shr}
 use Rattle.dirac_arith.specs.declared.registers.Registers.{Registers}
 use Rattle.dirac_arith.specs.Front.{front}
-use Rattle.dirac_arith.specs.Interval.{Interval, doublings_for, adapted, split_at, kept, widened, narrowed}
+use Rattle.dirac_arith.specs.Interval.{Interval, doublings_for, adapted, split_width, interval_kept, widened, narrowed}
 use Rattle.dirac_arith.specs.Carried.{Lies}
-use Rattle.dirac_arith.specs.Registers.{Stands, low_of, doublings_of, part_of, lift_of}
+use Rattle.dirac_arith.specs.Registers.{Stands, low_of, doublings_of, part_width, lift_of}
 use Rattle.dirac_arith.proofs.Fronts.{front_longer, rest_below}
 
 -- the registers stand for one low end
@@ -36,16 +36,16 @@ same_interval low low' range range' doublings doublings' contexts contexts' l r 
 
 -- the interval after a decision, by its parts
 pub narrowed_is : (s : Interval) (context : ℕ) (truth : Bool) (low range doublings : ℕ) (contexts : List ℕ)
-    → low ≡ (s.low + lift_of (split_at s context) truth) * 2 ^ doublings_for (part_of s.range (split_at s context) truth)
-    → range ≡ part_of s.range (split_at s context) truth * 2 ^ doublings_for (part_of s.range (split_at s context) truth)
-    → doublings ≡ s.doublings + doublings_for (part_of s.range (split_at s context) truth)
+    → low ≡ (s.low + lift_of (split_width s context) truth) * 2 ^ doublings_for (part_width s.range (split_width s context) truth)
+    → range ≡ part_width s.range (split_width s context) truth * 2 ^ doublings_for (part_width s.range (split_width s context) truth)
+    → doublings ≡ s.doublings + doublings_for (part_width s.range (split_width s context) truth)
     → contexts ≡ slice_set s.contexts context (adapted (slice_index s.contexts context) truth)
     → let made : Interval = record { low = low; range = range; doublings = doublings; contexts = contexts } in
     made ≡ narrowed s (context, truth)
 narrowed_is s context true low range doublings contexts l r d c = same_interval _ _ _ _ _ _ _ _ l r d c
 narrowed_is s context false low range doublings contexts l r d c =
     let e : s.low + 0 ≡ s.low = add-zero s.low in
-    same_interval _ _ _ _ _ _ _ _ (l ∙ ap (λ x. x * 2 ^ doublings_for (split_at s context)) e) r d c
+    same_interval _ _ _ _ _ _ _ _ (l ∙ ap (λ x. x * 2 ^ doublings_for (split_width s context)) e) r d c
 
 -- where the front lies after doublings, it lay before them
 pub lies_before_doublings : (block : List ℕ) (low range k j : ℕ) → low * 2 ^ j ≤ front block (16 + (k + j)) → front block (16 + (k + j)) < low * 2 ^ j + range * 2 ^ j
@@ -77,25 +77,25 @@ pub one_truth : (block : List ℕ) (s : Interval) (context : ℕ) (t t' : Bool) 
 one_truth block s context true true h h' = refl
 one_truth block s context false false h h' = refl
 one_truth block s context true false h h' =
-    let upper = lies_widened block (kept s context true) h in
-    let lower = lies_widened block (kept s context false) h' in
+    let upper = lies_widened block (interval_kept s context true) h in
+    let lower = lies_widened block (interval_kept s context false) h' in
     absurd (omega (arith, upper.above, lower.below))
 one_truth block s context false true h h' =
-    let lower = lies_widened block (kept s context false) h in
-    let upper = lies_widened block (kept s context true) h' in
+    let lower = lies_widened block (interval_kept s context false) h in
+    let upper = lies_widened block (interval_kept s context true) h' in
     absurd (omega (arith, upper.above, lower.below))
 
 -- each part lies in the interval
 pub lies_kept : (block : List ℕ) (s : Interval) (context : ℕ) (t : Bool) → slice_index s.contexts context ≤ 65536 → Lies block (narrowed s (context, t)) → Lies block s
 lies_kept block s context true fits h =
-    let upper = lies_widened block (kept s context true) h in
+    let upper = lies_widened block (interval_kept s context true) h in
     let above = upper.above in
     let below = upper.below in
     record { above = omega arith; below = omega arith }
 lies_kept block s context false fits h =
-    let lower = lies_widened block (kept s context false) h in
+    let lower = lies_widened block (interval_kept s context false) h in
     let above = lower.above in
     let below = lower.below in
     let most = mul-le-mul_left s.range fits in
-    let split : split_at s context ≤ s.range = omega arith in
+    let split : split_width s context ≤ s.range = omega arith in
     record { above = above; below = omega arith }

@@ -12,43 +12,43 @@ use Rattle.dirac_arith.specs.declared.decoder.Decoder.TheInside.{Inside}
 use Rattle.dirac_arith.specs.Carried.{Lies}
 use Rattle.dirac_arith.specs.Front.{front}
 use Rattle.dirac_arith.specs.Interval.{Interval, Decision, narrowed, narrowed_by}
-use Rattle.dirac_arith.specs.Spelling.{follow_at, opening, spelt, spelling, signed_spelling}
-use Rattle.dirac_arith.specs.Reading.{Reading, Reads}
+use Rattle.dirac_arith.specs.Spelling.{follow_at, opening_digits, spelt, spelling, signed_spelling}
+use Rattle.dirac_arith.specs.Reading.{Reading, DecisionsAreRead}
 use Rattle.dirac_arith.specs.Decoding.{reading, IsSound}
 use Rattle.dirac_arith.proofs.Spellings.{IsTame, reads_more, spelt_is, one_spelt_from, one_number, one_signed, lies_first, spelling_some, signed_some, sign_before, signed_is}
 use Rattle.dirac_arith.proofs.Windows.{window_from_lies}
 
 -- one decision more
-pub reads_one : (a b c : Reading) (ds : List Decision) (context : ℕ) (t : Bool) → Reads a ds b
+pub reads_one : (a b c : Reading) (ds : List Decision) (context : ℕ) (t : Bool) → DecisionsAreRead a ds b
     → c ≡ record { block = b.block; at = narrowed b.at (context, t) } → Lies b.block (narrowed b.at (context, t))
-    → (let d : Decision = (context, t) in Reads a (ds ++ d ∷ []) c)
+    → (let d : Decision = (context, t) in DecisionsAreRead a (ds ++ d ∷ []) c)
 reads_one a b c ds context t before moves lies =
     let d : Decision = (context, t) in
     reads_more a b c ds (d ∷ []) before (record { moved = moves; lies = λ some. lies })
 
 -- the last follow decision behind digits
-pub reads_spelt : (a b c : Reading) (follow : List ℕ) (bits context i : ℕ) (digits : List Bool) (t : Bool) → Reads a (opening follow bits 0 digits) b
+pub reads_spelt : (a b c : Reading) (follow : List ℕ) (bits context i : ℕ) (digits : List Bool) (t : Bool) → DecisionsAreRead a (opening_digits follow bits 0 digits) b
     → length digits ≡ i → context ≡ follow_at follow i
     → c ≡ record { block = b.block; at = narrowed b.at (context, t) } → Lies b.block (narrowed b.at (context, t))
-    → Reads a (spelt follow bits digits t) c
+    → DecisionsAreRead a (spelt follow bits digits t) c
 reads_spelt a b c follow bits context i digits t before count is moves lies =
     let same : context ≡ follow_at follow (length digits) = is ∙ ap (follow_at follow) (sym count) in
-    let P : ℕ → Type 0 = λ x. let d : Decision = (x, t) in Reads a (opening follow bits 0 digits ++ d ∷ []) c in
-    subst P same (reads_one a b c (opening follow bits 0 digits) context t before moves lies)
+    let P : ℕ → Type 0 = λ x. let d : Decision = (x, t) in DecisionsAreRead a (opening_digits follow bits 0 digits ++ d ∷ []) c in
+    subst P same (reads_one a b c (opening_digits follow bits 0 digits) context t before moves lies)
 
-pub reads_spelling : (a b c : Reading) (follow : List ℕ) (bits context i v : ℕ) (t : Bool) → Reads a (opening follow bits 0 (digits_of v)) b
+pub reads_spelling : (a b c : Reading) (follow : List ℕ) (bits context i v : ℕ) (t : Bool) → DecisionsAreRead a (opening_digits follow bits 0 (digits_of v)) b
     → length (digits_of v) ≡ i → context ≡ follow_at follow i → t ≡ true
     → c ≡ record { block = b.block; at = narrowed b.at (context, t) } → Lies b.block (narrowed b.at (context, t))
-    → Reads a (spelling follow bits v) c
+    → DecisionsAreRead a (spelling follow bits v) c
 unfolding spelling
 reads_spelling a b c follow bits context i v t before count is ends moves lies =
-    let P : Bool → Type 0 = λ u. Reads a (spelt follow bits (digits_of v) u) c in
+    let P : Bool → Type 0 = λ u. DecisionsAreRead a (spelt follow bits (digits_of v) u) c in
     subst P ends (reads_spelt a b c follow bits context i (digits_of v) t before count is moves lies)
 
 -- one digit more of an opening
 pub opening_push : (follow : List ℕ) (bits i : ℕ) (digits : List Bool) (b : Bool)
-    → opening follow bits i (digits ++ b ∷ [])
-    ≡ (let f : Decision = (follow_at follow (i + length digits), false) in let d : Decision = (bits, b) in (opening follow bits i digits ++ f ∷ []) ++ d ∷ [])
+    → opening_digits follow bits i (digits ++ b ∷ [])
+    ≡ (let f : Decision = (follow_at follow (i + length digits), false) in let d : Decision = (bits, b) in (opening_digits follow bits i digits ++ f ∷ []) ++ d ∷ [])
 opening_push follow bits i [] b =
     let e : i ≡ i + 0 = omega arith in
     let d : Decision = (bits, b) in
@@ -59,29 +59,29 @@ opening_push follow bits i (x ∷ xs) b =
     let second : Decision = (bits, x) in
     let d : Decision = (bits, b) in
     ap (λ rest. first ∷ (second ∷ rest)) (opening_push follow bits (i + 1) xs b)
-    ∙ ap (λ j. let f : Decision = (follow_at follow j, false) in first ∷ (second ∷ ((opening follow bits (i + 1) xs ++ f ∷ []) ++ d ∷ []))) e
+    ∙ ap (λ j. let f : Decision = (follow_at follow j, false) in first ∷ (second ∷ ((opening_digits follow bits (i + 1) xs ++ f ∷ []) ++ d ∷ []))) e
 
 -- a false follow decision and a digit
-pub reads_digit : (a b b' c : Reading) (follow : List ℕ) (bits context i value x : ℕ) (t u : Bool) → Reads a (opening follow bits 0 (digits_of (value - 1))) b
+pub reads_digit : (a b b' c : Reading) (follow : List ℕ) (bits context i value x : ℕ) (t u : Bool) → DecisionsAreRead a (opening_digits follow bits 0 (digits_of (value - 1))) b
     → length (digits_of (value - 1)) ≡ i → context ≡ follow_at follow i → t ≡ false
     → b' ≡ record { block = b.block; at = narrowed b.at (context, t) } → Lies b.block (narrowed b.at (context, t))
     → c ≡ record { block = b'.block; at = narrowed b'.at (bits, u) } → Lies b'.block (narrowed b'.at (bits, u))
     → x ≡ bit_value u → 1 ≤ value → value < 2 ^ 38
-    → Reads a (opening follow bits 0 (digits_of (value * 2 + x - 1))) c
+    → DecisionsAreRead a (opening_digits follow bits 0 (digits_of (value * 2 + x - 1))) c
 reads_digit a b b' c follow bits context i value x t u before count is goes moves lies moves' lies' bit some below =
     let digits = digits_of (value - 1) in
     let d : Decision = (bits, u) in
-    let false_follow : Reads a (spelt follow bits digits t) b' = reads_spelt a b b' follow bits context i digits t before count is moves lies in
-    let P : Bool → Type 0 = λ y. Reads a (spelt follow bits digits y ++ d ∷ []) c in
+    let false_follow : DecisionsAreRead a (spelt follow bits digits t) b' = reads_spelt a b b' follow bits context i digits t before count is moves lies in
+    let P : Bool → Type 0 = λ y. DecisionsAreRead a (spelt follow bits digits y ++ d ∷ []) c in
     let both = subst P goes (reads_one a b' c (spelt follow bits digits t) bits u false_follow moves' lies') in
     let e : value * 2 + x - 1 ≡ 2 * value + bit_value u - 1 = omega arith in
     let grown = ap digits_of e ∙ digits_push value u some below in
     let zero_more : length digits ≡ 0 + length digits = omega arith in
-    let Q : ℕ → Type 0 = λ j. let f : Decision = (follow_at follow j, false) in Reads a ((opening follow bits 0 digits ++ f ∷ []) ++ d ∷ []) c in
+    let Q : ℕ → Type 0 = λ j. let f : Decision = (follow_at follow j, false) in DecisionsAreRead a ((opening_digits follow bits 0 digits ++ f ∷ []) ++ d ∷ []) c in
     let shaped = subst Q zero_more both in
-    let R : List Decision → Type 0 = λ ds. Reads a ds c in
+    let R : List Decision → Type 0 = λ ds. DecisionsAreRead a ds c in
     let opened = subst R (sym (opening_push follow bits 0 digits u)) shaped in
-    let S : List Bool → Type 0 = λ bs. Reads a (opening follow bits 0 bs) c in
+    let S : List Bool → Type 0 = λ bs. DecisionsAreRead a (opening_digits follow bits 0 bs) c in
     subst S (sym grown) opened
 
 -- one digit more is one place more
@@ -95,9 +95,9 @@ digits_grow value i x u count bit some below =
 pub digits_none : digits_of 0 ≡ []
 digits_none = digits_are [] (omega arith)
 
-pub reads_none : (a : Reading) (follow : List ℕ) (bits : ℕ) → Reads a (opening follow bits 0 (digits_of 0)) a
+pub reads_none : (a : Reading) (follow : List ℕ) (bits : ℕ) → DecisionsAreRead a (opening_digits follow bits 0 (digits_of 0)) a
 reads_none a follow bits =
-    let P : List Bool → Type 0 = λ digits. Reads a (opening follow bits 0 digits) a in
+    let P : List Bool → Type 0 = λ digits. DecisionsAreRead a (opening_digits follow bits 0 digits) a in
     subst P (sym digits_none) (record { moved = refl; lies = λ some. absurd (omega arith) })
 
 -- a decoder's probabilities are tame
@@ -136,7 +136,7 @@ spelt_apart block s follow bits digits v x y tame count h h' =
 pub spelt_some : (follow : List ℕ) (bits : ℕ) (digits : List Bool) (last : Bool) → 0 < length (spelt follow bits digits last)
 spelt_some follow bits digits last =
     let d : Decision = (follow_at follow (length digits), last) in
-    omega (arith, length-append (opening follow bits 0 digits) (d ∷ []))
+    omega (arith, length-append (opening_digits follow bits 0 digits) (d ∷ []))
 
 -- with nothing behind
 alone : (block : List ℕ) (s : Interval) (ds : List Decision) → Lies block (narrowed_by s ds) → Lies block (narrowed_by s (ds ++ []))
@@ -145,8 +145,8 @@ alone block s ds lies = let P : List Decision → Type 0 = λ es. Lies block (na
 -- what a block carries at a decoder's place is read
 pub number_read : (r : Result ℕ Cause) (a b : Reading) (follow : List ℕ) (bits v : ℕ) → IsTame a.at
     → (r ≡ Err cause.CodeWord → Lies a.block a.at → ⊥)
-    → IfOk r (λ w. Reads a (spelling follow bits w) b) → IfOk r (λ w. w < 2 ^ 39 - 1)
-    → (r ≡ Err cause.NumberTooLong → (digits : List Bool) × (length digits ≡ 38) × Reads a (spelt follow bits digits false) b)
+    → IfOk r (λ w. DecisionsAreRead a (spelling follow bits w) b) → IfOk r (λ w. w < 2 ^ 39 - 1)
+    → (r ≡ Err cause.NumberTooLong → (digits : List Bool) × (length digits ≡ 38) × DecisionsAreRead a (spelt follow bits digits false) b)
     → IfErr r (λ e. (e ≡ cause.CodeWord) ⊎ (e ≡ cause.NumberTooLong))
     → v < 2 ^ 39 - 1 → Lies a.block (narrowed_by a.at (spelling follow bits v)) → r ≡ Ok v
 number_read (Ok w) a b follow bits v tame closed found most long only fits lies =
@@ -163,7 +163,7 @@ number_read (Err e) a b follow bits v tame closed found most long only fits lies
 
 pub no_number_read : (r : Result ℕ Cause) (a b : Reading) (follow : List ℕ) (bits : ℕ) (digits : List Bool) → IsTame a.at
     → (r ≡ Err cause.CodeWord → Lies a.block a.at → ⊥)
-    → IfOk r (λ w. Reads a (spelling follow bits w) b)
+    → IfOk r (λ w. DecisionsAreRead a (spelling follow bits w) b)
     → IfErr r (λ e. (e ≡ cause.CodeWord) ⊎ (e ≡ cause.NumberTooLong))
     → length digits ≡ 38 → Lies a.block (narrowed_by a.at (spelt follow bits digits false)) → r ≡ Err cause.NumberTooLong
 no_number_read (Ok w) a b follow bits digits tame closed found only count lies =
@@ -178,8 +178,8 @@ no_number_read (Err e) a b follow bits digits tame closed found only count lies 
 -- the same of signed numbers
 pub signed_read : (r : Result ℤ Cause) (a b : Reading) (follow : List ℕ) (bits sign : ℕ) (v : ℤ) → IsTame a.at
     → (r ≡ Err cause.CodeWord → Lies a.block a.at → ⊥)
-    → IfOk r (λ w. Reads a (signed_spelling follow bits sign w) b) → IfOk r (λ w. nat_abs w < 2 ^ 39 - 1)
-    → (r ≡ Err cause.NumberTooLong → (digits : List Bool) × (length digits ≡ 38) × Reads a (spelt follow bits digits false) b)
+    → IfOk r (λ w. DecisionsAreRead a (signed_spelling follow bits sign w) b) → IfOk r (λ w. nat_abs w < 2 ^ 39 - 1)
+    → (r ≡ Err cause.NumberTooLong → (digits : List Bool) × (length digits ≡ 38) × DecisionsAreRead a (spelt follow bits digits false) b)
     → IfErr r (λ e. (e ≡ cause.CodeWord) ⊎ (e ≡ cause.NumberTooLong))
     → nat_abs v < 2 ^ 39 - 1 → Lies a.block (narrowed_by a.at (signed_spelling follow bits sign v)) → r ≡ Ok v
 signed_read (Ok w) a b follow bits sign v tame closed found most long only fits lies =
@@ -199,7 +199,7 @@ signed_read (Err e) a b follow bits sign v tame closed found most long only fits
 
 pub no_signed_read : (r : Result ℤ Cause) (a b : Reading) (follow : List ℕ) (bits sign : ℕ) (digits : List Bool) → IsTame a.at
     → (r ≡ Err cause.CodeWord → Lies a.block a.at → ⊥)
-    → IfOk r (λ w. Reads a (signed_spelling follow bits sign w) b)
+    → IfOk r (λ w. DecisionsAreRead a (signed_spelling follow bits sign w) b)
     → IfErr r (λ e. (e ≡ cause.CodeWord) ⊎ (e ≡ cause.NumberTooLong))
     → length digits ≡ 38 → Lies a.block (narrowed_by a.at (spelt follow bits digits false)) → r ≡ Err cause.NumberTooLong
 no_signed_read (Ok w) a b follow bits sign digits tame closed found only count lies =
@@ -215,14 +215,14 @@ no_signed_read (Err e) a b follow bits sign digits tame closed found only count 
     ]
 
 -- a magnitude of 0 has no sign
-pub reads_zero : (a b : Reading) (follow : List ℕ) (bits sign m : ℕ) → m ≡ 0 → Reads a (spelling follow bits m) b → Reads a (signed_spelling follow bits sign (pos 0)) b
+pub reads_zero : (a b : Reading) (follow : List ℕ) (bits sign m : ℕ) → m ≡ 0 → DecisionsAreRead a (spelling follow bits m) b → DecisionsAreRead a (signed_spelling follow bits sign (pos 0)) b
 unfolding signed_spelling
-reads_zero a b follow bits sign m none reads = let P : ℕ → Type 0 = λ x. Reads a (spelling follow bits x) b in subst P none reads
+reads_zero a b follow bits sign m none reads = let P : ℕ → Type 0 = λ x. DecisionsAreRead a (spelling follow bits x) b in subst P none reads
 
 -- a magnitude, and its sign
-pub reads_signed : (a b c : Reading) (follow : List ℕ) (bits sign m : ℕ) (t : Bool) → (m ≡ 0 → ⊥) → Reads a (spelling follow bits m) b
+pub reads_signed : (a b c : Reading) (follow : List ℕ) (bits sign m : ℕ) (t : Bool) → (m ≡ 0 → ⊥) → DecisionsAreRead a (spelling follow bits m) b
     → c ≡ record { block = b.block; at = narrowed b.at (sign, t) } → Lies b.block (narrowed b.at (sign, t))
-    → Reads a (signed_spelling follow bits sign (signed_value m t)) c
+    → DecisionsAreRead a (signed_spelling follow bits sign (signed_value m t)) c
 unfolding signed_spelling
 reads_signed a b c follow bits sign zero t some reads moves lies = absurd (some refl)
 reads_signed a b c follow bits sign (suc m) true some reads moves lies = reads_one a b c (spelling follow bits (suc m)) sign true reads moves lies

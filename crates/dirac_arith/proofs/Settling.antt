@@ -3,12 +3,12 @@ use Rattle.std.proofs.Common.{◌≡◌, ℕ, ◌+◌, ◌-◌, ◌*◌, ◌/◌
 use Rattle.std.proofs.lemmas.Nat.{pow-add, shl_whole}
 use Rattle.dirac_arith.specs.declared.registers.Registers.{Registers}
 use Rattle.dirac_arith.specs.Interval.{doublings_for}
-use Rattle.dirac_arith.specs.Registers.{Settles, with_part, part_of, lift_of}
+use Rattle.dirac_arith.specs.Registers.{Settles, with_part, part_width, lift_of}
 use Rattle.dirac_arith.proofs.Doublings.{widens, split_bounds}
 use Rattle.dirac_arith.proofs.Windows.{stands_decided}
 
 settles : (r : Registers) (split : ℕ) (truth : Bool) (window part : ℕ)
-    → part_of r.range split truth ≡ part → 32 < part → part ≤ 0xFFFF → 9 ≤ r.ahead
+    → part_width r.range split truth ≡ part → 32 < part → part ≤ 0xFFFF → 9 ≤ r.ahead
     → lift_of split truth * 2 ^ r.ahead ≤ r.window → window + lift_of split truth * 2 ^ r.ahead ≡ r.window → window < part * 2 ^ r.ahead
     → Settles r split truth (with_part r window part)
 settles r split truth window part is some most ahead fits sum below =

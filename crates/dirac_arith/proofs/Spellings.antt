@@ -7,7 +7,7 @@ use Rattle.dirac_common.specs.Numbers.{digits_of, followed}
 use Rattle.dirac_common.proofs.Digits.{digits_value, digits_few}
 use Rattle.dirac_arith.specs.Interval.{Interval, Decision, adapted, narrowed, narrowed_by, whole}
 use Rattle.dirac_arith.specs.Carried.{Lies, Carries}
-use Rattle.dirac_arith.specs.Spelling.{follow_at, opening, spelt, spelling, signed_spelling}
+use Rattle.dirac_arith.specs.Spelling.{follow_at, opening_digits, spelt, spelling, signed_spelling}
 use Rattle.dirac_arith.specs.Reading.{Reading}
 use Rattle.dirac_arith.specs.Laws.{CarriesOneTruth, CarriesOneNumber, CarriesOneSigned, TruthsAreBits, SignedTruthsAreBits, ReadingComposes}
 use Rattle.dirac_arith.proofs.Intervals.{one_truth, lies_kept}
@@ -72,21 +72,21 @@ spelt_from follow bits i [] last more = (follow_at follow i, last) ∷ more
 spelt_from follow bits i (b ∷ bs) last more = (follow_at follow i, false) ∷ (bits, b) ∷ spelt_from follow bits (i + 1) bs last more
 
 spelt_is_from : (follow : List ℕ) (bits i : ℕ) (digits : List Bool) (last : Bool) (more : List Decision)
-    → (opening follow bits i digits ++ (follow_at follow (i + length digits), last) ∷ []) ++ more ≡ spelt_from follow bits i digits last more
+    → (opening_digits follow bits i digits ++ (follow_at follow (i + length digits), last) ∷ []) ++ more ≡ spelt_from follow bits i digits last more
 unfolding spelt_from
 spelt_is_from follow bits i [] last more = let e : i + 0 ≡ i = omega arith in ap (λ j. let d : Decision = (follow_at follow j, last) in d ∷ more) e
 spelt_is_from follow bits i (b ∷ bs) last more =
     let e : i + length (b ∷ bs) ≡ i + 1 + length bs = omega arith in
     let first : Decision = (follow_at follow i, false) in
     let second : Decision = (bits, b) in
-    ap (λ j. let d : Decision = (follow_at follow j, last) in first ∷ (second ∷ ((opening follow bits (i + 1) bs ++ d ∷ []) ++ more))) e
+    ap (λ j. let d : Decision = (follow_at follow j, last) in first ∷ (second ∷ ((opening_digits follow bits (i + 1) bs ++ d ∷ []) ++ more))) e
     ∙ ap (λ rest. first ∷ (second ∷ rest)) (spelt_is_from follow bits (i + 1) bs last more)
 
 pub spelt_is : (follow : List ℕ) (bits : ℕ) (digits : List Bool) (last : Bool) (more : List Decision)
     → spelt follow bits digits last ++ more ≡ spelt_from follow bits 0 digits last more
 spelt_is follow bits digits last more =
     let e : 0 + length digits ≡ length digits = omega arith in
-    ap (λ j. let d : Decision = (follow_at follow j, last) in (opening follow bits 0 digits ++ d ∷ []) ++ more) (sym e)
+    ap (λ j. let d : Decision = (follow_at follow j, last) in (opening_digits follow bits 0 digits ++ d ∷ []) ++ more) (sym e)
     ∙ spelt_is_from follow bits 0 digits last more
 
 -- with nothing behind
@@ -134,7 +134,7 @@ pub spelling_some : (follow : List ℕ) (bits v : ℕ) → 0 < length (spelling 
 unfolding spelling
 spelling_some follow bits v =
     let d : Decision = (follow_at follow (length (digits_of v)), true) in
-    omega (arith, length-append (opening follow bits 0 (digits_of v)) (d ∷ []))
+    omega (arith, length-append (opening_digits follow bits 0 (digits_of v)) (d ∷ []))
 
 -- what is carried lies in its interval
 pub carried_lies : (block : List ℕ) (ds : List Decision) → 0 < length ds → Carries block ds → Lies block (narrowed_by whole ds)
@@ -251,7 +251,7 @@ reads_more a b c ds (e ∷ es) first second =
     let S : Interval → Type 0 = λ s. Lies a.block s in
     record { moved = subst R (sym joined) moved; lies = λ some. subst S (sym joined) lies }
 
-opening_truths : (follow : List ℕ) (bits i : ℕ) (digits : List Bool) → map (λ (d : Decision). d.1) (opening follow bits i digits) ≡ followed digits
+opening_truths : (follow : List ℕ) (bits i : ℕ) (digits : List Bool) → map (λ (d : Decision). d.1) (opening_digits follow bits i digits) ≡ followed digits
 opening_truths follow bits i [] = refl
 opening_truths follow bits i (b ∷ bs) = ap (λ rest. false ∷ b ∷ rest) (opening_truths follow bits (i + 1) bs)
 
@@ -259,7 +259,7 @@ pub truths_are_bits : TruthsAreBits
 unfolding spelling
 truths_are_bits follow bits v =
     let d : Decision = (follow_at follow (length (digits_of v)), true) in
-    map-append (λ (d : Decision). d.1) (opening follow bits 0 (digits_of v)) (d ∷ [])
+    map-append (λ (d : Decision). d.1) (opening_digits follow bits 0 (digits_of v)) (d ∷ [])
     ∙ ap (λ bs. bs ++ true ∷ []) (opening_truths follow bits 0 (digits_of v))
 
 pub signed_truths_are_bits : SignedTruthsAreBits

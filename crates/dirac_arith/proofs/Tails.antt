@@ -5,7 +5,7 @@ use Rattle.std.proofs.lemmas.Bool.{cases_lt}
 use Rattle.std.proofs.lemmas.Nat.{pow_pos, pow-add, shr_split, shr_below, shl_below, mod_below}
 use Rattle.dirac_arith.specs.Interval.{doublings_for}
 use Rattle.dirac_arith.specs.Tail.{Waiting, bytes_from}
-use Rattle.dirac_arith.specs.Written.{bytes_of}
+use Rattle.dirac_arith.specs.Written.{number_in_bytes}
 use Rattle.dirac_arith.proofs.Bytes.{bytes_push, bytes_of_number, bytes_set, pow_byte}
 use Rattle.dirac_arith.proofs.Doublings.{widens}
 use Rattle.dirac_arith.proofs.Fronts.{twice_pow}
@@ -96,12 +96,12 @@ same_waiting value value' doublings doublings' register register' pending pendin
 
 -- where no bit waits the bytes hold the value
 pub whole_bytes : (bs : List ℕ) (register p : ℕ) → ((i : ℕ) → get_or bs i 0 < 256) → p ≡ 0 → register < 65536
-    → bs ≡ bytes_of ((8 * length bs + p) / 8) ((bytes_from 0 bs * 2 ^ (16 + p) + register) / 65536)
+    → bs ≡ number_in_bytes ((8 * length bs + p) / 8) ((bytes_from 0 bs * 2 ^ (16 + p) + register) / 65536)
 whole_bytes bs register p fits none below =
-    let P : ℕ → Type 0 = λ q. bs ≡ bytes_of ((8 * length bs + q) / 8) ((bytes_from 0 bs * 2 ^ (16 + q) + register) / 65536) in
+    let P : ℕ → Type 0 = λ q. bs ≡ number_in_bytes ((8 * length bs + q) / 8) ((bytes_from 0 bs * 2 ^ (16 + q) + register) / 65536) in
     let count : (8 * length bs + 0) / 8 ≡ length bs = omega arith in
     let number : (bytes_from 0 bs * 65536 + register) / 65536 ≡ bytes_from 0 bs = omega arith in
-    let here : bs ≡ bytes_of ((8 * length bs + 0) / 8) ((bytes_from 0 bs * 65536 + register) / 65536) = rw (count, number) (sym (bytes_of_number bs fits)) in
+    let here : bs ≡ number_in_bytes ((8 * length bs + 0) / 8) ((bytes_from 0 bs * 65536 + register) / 65536) = rw (count, number) (sym (bytes_of_number bs fits)) in
     subst P (sym none) here
 
 -- a part of a range after its doublings

@@ -6,7 +6,7 @@ use Rattle.dirac_common.specs.Chain.{◌>>=◌}
 use Rattle.dirac_common.specs.declared.limits.TheConstants.{MOST_DIGITS}
 use Rattle.dirac_common.specs.declared.faults.Cause.{Cause}
 use Rattle.dirac_common.specs.declared.faults.Cause.TheVariants.{NumberTooLong}
-use Rattle.dirac_arith.specs.Deciding.{decided, number_read, signed_read}
+use Rattle.dirac_arith.specs.Deciding.{decision_read, number_read, signed_read}
 use Rattle.dirac_arith.specs.Interval.{Decision}
 use Rattle.dirac_arith.specs.Reading.{Reading}
 use Rattle.dirac_arith.specs.Spelling.{spelt, spelling, signed_spelling}
@@ -26,7 +26,7 @@ Answer (one_signed follow bits sign) = ℤ
 
 -- the answer that is read
 abbrev pub answer : (q : Question) → Reading → Result (Answer q × Reading) Cause
-answer (one_decision context) r = decided context r
+answer (one_decision context) r = decision_read context r
 answer (one_number follow bits) r = number_read follow bits r
 answer (one_signed follow bits sign) r = signed_read follow bits sign r
 
@@ -71,17 +71,17 @@ abbrev pub signed : {A : Type 0} → List ℕ → ℕ → ℕ → (ℤ → Coded
 signed follow bits sign f = ask (one_signed follow bits sign) f
 
 -- the value that is read from here on, or why it is refused
-abbrev pub read : {A : Type 0} → Coded A → Reading → Result (A × Reading) Cause
-read (done x) r = Ok (x, r)
-read (ask q f) r = answer q r >>= λ a. read (f a.0) a.1
-read (refuse cause) r = Err cause
+abbrev pub read_coded : {A : Type 0} → Coded A → Reading → Result (A × Reading) Cause
+read_coded (done x) r = Ok (x, r)
+read_coded (ask q f) r = answer q r >>= λ a. read_coded (f a.0) a.1
+read_coded (refuse cause) r = Err cause
 
 -- these decisions spell this value
-abbrev pub Spells : {A : Type 0} → Coded A → A → List Decision → Type 0
-Spells (done x) y ds = (x ≡ y) × (ds ≡ [])
-Spells (ask q f) y ds =
-    (a : Answer q) × (rest : List Decision) × Fits q a × (ds ≡ telling q a ++ rest) × Spells (f a) y rest
-Spells (refuse cause) y ds = ⊥
+abbrev pub DecisionsSpell : {A : Type 0} → Coded A → A → List Decision → Type 0
+DecisionsSpell (done x) y ds = (x ≡ y) × (ds ≡ [])
+DecisionsSpell (ask q f) y ds =
+    (a : Answer q) × (rest : List Decision) × Fits q a × (ds ≡ telling q a ++ rest) × DecisionsSpell (f a) y rest
+DecisionsSpell (refuse cause) y ds = ⊥
 
 -- these decisions lead to where a value breaks off for this cause: to a refusal, or to a number that is too long
 abbrev pub Breaks : {A : Type 0} → Coded A → Cause → List Decision → Type 0

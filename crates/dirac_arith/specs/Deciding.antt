@@ -19,8 +19,8 @@ abbrev pub begin : List ℕ → Reading
 begin block = record { block = block; at = whole }
 
 -- the reading after a decision
-abbrev pub after : Reading → Decision → Reading
-after r d = record { block = r.block; at = narrowed r.at d }
+abbrev pub after_decision : Reading → Decision → Reading
+after_decision r d = record { block = r.block; at = narrowed r.at d }
 
 -- the reading after more decisions
 abbrev pub after_all : Reading → List Decision → Reading
@@ -31,19 +31,20 @@ abbrev pub truth_of : ℕ → Reading → Bool
 truth_of context r = lies_in r.block (narrowed r.at (context, true))
 
 -- the next decision; a block that begins with sixteen ones has none
-unfoldable pub decided : ℕ → Reading → Result (Bool × Reading) Cause
-decided context r =
-    if front r.block 16 == 0xFFFF then Err CodeWord else Ok (truth_of context r, after r (context, truth_of context r))
+unfoldable pub decision_read : ℕ → Reading → Result (Bool × Reading) Cause
+decision_read context r =
+    if front r.block 16 == 0xFFFF then Err CodeWord else
+    Ok (truth_of context r, after_decision r (context, truth_of context r))
 
 -- a number, its digits so far making `value`, where that many more may follow: digit number i is next, behind its
 -- follow decision
 unfoldable pub number_from_digit : List ℕ → ℕ → ℕ → ℕ → ℕ → Reading → Result (ℕ × Reading) Cause
 number_from_digit follow bits i zero value r = do
-  last ← decided (follow_at follow i) r
+  last ← decision_read (follow_at follow i) r
   if last.0 then Ok (value - 1, last.1) else Err NumberTooLong
 number_from_digit follow bits i (suc left) value r = do
-  last ← decided (follow_at follow i) r
-  if last.0 then Ok (value - 1, last.1) else (decided bits last.1
+  last ← decision_read (follow_at follow i) r
+  if last.0 then Ok (value - 1, last.1) else (decision_read bits last.1
       >>= λ digit. number_from_digit follow bits (i + 1) left (2 * value + bit_value digit.0) digit.1)
 
 -- an unsigned number
@@ -53,7 +54,7 @@ number_read follow bits r = number_from_digit follow bits 0 MOST_DIGITS 1 r
 -- the sign of this number, where it isn't 0
 unfoldable pub sign_read : ℕ → ℕ × Reading → Result (ℤ × Reading) Cause
 sign_read sign n =
-    if n.0 == 0 then Ok (pos 0, n.1) else (decided sign n.1 >>= λ negative. Ok (
+    if n.0 == 0 then Ok (pos 0, n.1) else (decision_read sign n.1 >>= λ negative. Ok (
       signed_value n.0 negative.0,
       negative.1,
     ))
@@ -63,6 +64,6 @@ unfoldable pub signed_read : List ℕ → ℕ → ℕ → Reading → Result (�
 signed_read follow bits sign r = number_read follow bits r >>= sign_read sign
 
 -- a decoder's answer is what is read, and it stands behind that; nothing is said of its place after a refusal
-abbrev pub Gives : {A : Type 0} → Result A Cause → Reading → Result (A × Reading) Cause → Type 0
-Gives (Ok v) new read = read ≡ Ok (v, new)
-Gives (Err cause) new read = read ≡ Err cause
+abbrev pub GivesReading : {A : Type 0} → Result A Cause → Reading → Result (A × Reading) Cause → Type 0
+GivesReading (Ok v) new read = read ≡ Ok (v, new)
+GivesReading (Err cause) new read = read ≡ Err cause

@@ -5,8 +5,8 @@ use Rattle.dirac_arith.specs.Interval.{Interval}
 use Rattle.dirac_arith.specs.Registers.{AreProbabilities}
 
 -- the exact interval
-abbrev pub encoding : Inside → Interval
-encoding a = record { low = a.tail.value; range = a.range; doublings = a.tail.doublings; contexts = a.contexts }
+abbrev pub exact_interval : Inside → Interval
+exact_interval a = record { low = a.tail.value; range = a.range; doublings = a.tail.doublings; contexts = a.contexts }
 
 -- the interval lies within the first one, so a carry finds a byte; and within twice the register
 pub record IsEncoding (a : Inside) : Type 0 where

@@ -6,11 +6,11 @@ use Rattle.dirac_common.specs.Numbers.{uint, sint}
 use Rattle.dirac_arith.specs.Interval.{Decision, InContexts}
 use Rattle.dirac_common.specs.declared.faults.Cause.TheVariants.{CodeWord, NumberTooLong}
 use Rattle.dirac_arith.specs.Carried.{Carries}
-use Rattle.dirac_arith.specs.Deciding.{begin, decided, number_read, signed_read}
+use Rattle.dirac_arith.specs.Deciding.{begin, decision_read, number_read, signed_read}
 use Rattle.dirac_arith.specs.Front.{front}
 use Rattle.dirac_arith.specs.Spelling.{spelt, spelling, signed_spelling}
 use Rattle.dirac_arith.specs.Written.{flush}
-use Rattle.dirac_arith.specs.Reading.{Reading, Reads}
+use Rattle.dirac_arith.specs.Reading.{Reading, DecisionsAreRead}
 
 -- of two lists that first differ in one truth at the same context, a block carries at most one
 abbrev pub CarriesOneTruth : Type 0
@@ -51,7 +51,8 @@ SignedTruthsAreBits =
 
 -- reading some decisions and then more is reading both
 abbrev pub ReadingComposes : Type 0
-ReadingComposes = (a b c : Reading) (ds es : List Decision) → Reads a ds b → Reads b es c → Reads a (ds ++ es) c
+ReadingComposes = (a b c : Reading) (ds es : List Decision) → DecisionsAreRead a ds b → DecisionsAreRead b es c
+    → DecisionsAreRead a (ds ++ es) c
 
 -- the block that is written for decisions carries them
 abbrev pub FlushedIsCarried : Type 0
@@ -83,44 +84,45 @@ CarriesSomeSigned =
 abbrev pub DecisionIsRead : Type 0
 DecisionIsRead =
     (block : List ℕ) (common : List Decision) (old new : Reading) (context : ℕ) (truth : Bool) → front block 16 ≢ 0xFFFF
-    → Reads (begin block) common old
-    → (decided context old ≡ Ok (truth, new)) ↔ Reads old ((context, truth) ∷ []) new
+    → DecisionsAreRead (begin block) common old
+    → (decision_read context old ≡ Ok (truth, new)) ↔ DecisionsAreRead old ((context, truth) ∷ []) new
 
 -- a number reads to the one that the block carries
 abbrev pub NumberIsRead : Type 0
 NumberIsRead =
     (block : List ℕ) (common : List Decision) (old new : Reading) (follow : List ℕ) (bits v : ℕ)
-    → Reads (begin block) common old
-    → (number_read follow bits old ≡ Ok (v, new)) ↔ ((v < 2 ^ 39 - 1) × Reads old (spelling follow bits v) new)
+    → DecisionsAreRead (begin block) common old
+    → (number_read follow bits old ≡ Ok (v, new))
+    ↔ ((v < 2 ^ 39 - 1) × DecisionsAreRead old (spelling follow bits v) new)
 
 -- it is refused where it is too long
 abbrev pub LongNumberIsRefused : Type 0
 LongNumberIsRefused =
     (block : List ℕ) (common : List Decision) (old : Reading) (follow : List ℕ) (bits : ℕ)
-    → Reads (begin block) common old
+    → DecisionsAreRead (begin block) common old
     → (number_read follow bits old ≡ Err NumberTooLong) ↔ ((digits : List Bool) × (length digits ≡ MOST_DIGITS)
-    × ((new : Reading) × Reads old (spelt follow bits digits false) new))
+    × ((new : Reading) × DecisionsAreRead old (spelt follow bits digits false) new))
 
 -- the same of signed numbers
 abbrev pub SignedIsRead : Type 0
 SignedIsRead =
     (block : List ℕ) (common : List Decision) (old new : Reading) (follow : List ℕ) (bits sign : ℕ) (v : ℤ)
-    → Reads (begin block) common old
+    → DecisionsAreRead (begin block) common old
     → (signed_read follow bits sign old ≡ Ok (v, new)) ↔ ((nat_abs v < 2 ^ 39 - 1)
-    × Reads old (signed_spelling follow bits sign v) new)
+    × DecisionsAreRead old (signed_spelling follow bits sign v) new)
 
 -- it is refused where its magnitude is too long
 abbrev pub LongSignedIsRefused : Type 0
 LongSignedIsRefused =
     (block : List ℕ) (common : List Decision) (old : Reading) (follow : List ℕ) (bits sign : ℕ)
-    → Reads (begin block) common old
+    → DecisionsAreRead (begin block) common old
     → (signed_read follow bits sign old ≡ Err NumberTooLong) ↔ ((digits : List Bool) × (length digits ≡ MOST_DIGITS)
-    × ((new : Reading) × Reads old (spelt follow bits digits false) new))
+    × ((new : Reading) × DecisionsAreRead old (spelt follow bits digits false) new))
 
 -- decisions and numbers are refused for the block's first bits exactly where sixteen of them are ones
 abbrev pub OnesReadToNothing : Type 0
 OnesReadToNothing =
     (r : Reading) (follow : List ℕ) (context bits sign : ℕ)
-    → ((decided context r ≡ Err CodeWord) ↔ (front r.block 16 ≡ 0xFFFF))
+    → ((decision_read context r ≡ Err CodeWord) ↔ (front r.block 16 ≡ 0xFFFF))
     × ((number_read follow bits r ≡ Err CodeWord) ↔ (front r.block 16 ≡ 0xFFFF))
     × ((signed_read follow bits sign r ≡ Err CodeWord) ↔ (front r.block 16 ≡ 0xFFFF))

@@ -9,6 +9,6 @@ pub record Reading : Type 0 where
   pub at : Interval
 
 -- from the one state to the other these decisions were read, each the one that the block allows
-pub record Reads (old : Reading) (ds : List Decision) (new : Reading) : Type 0 where
+pub record DecisionsAreRead (old : Reading) (ds : List Decision) (new : Reading) : Type 0 where
   pub moved : new ≡ record { block = old.block; at = narrowed_by old.at ds }
   pub lies : 0 < length ds → Lies old.block (narrowed_by old.at ds)

@@ -23,9 +23,9 @@ abbrev pub AreProbabilities : List ℕ → Type 0
 AreProbabilities contexts = (i : ℕ) → i < CONTEXTS → (254 ≤ slice_index contexts i) × (slice_index contexts i ≤ 65281)
 
 -- how wide the part is that a decision keeps
-abbrev pub part_of : ℕ → ℕ → Bool → ℕ
-part_of range split true = range - split
-part_of range split false = split
+abbrev pub part_width : ℕ → ℕ → Bool → ℕ
+part_width range split true = range - split
+part_width range split false = split
 
 -- by how much a decision moves the low end
 abbrev pub lift_of : ℕ → Bool → ℕ
@@ -51,9 +51,9 @@ with_part r window part =
 -- the registers behind a decision of this truth, where the lower part of the range is `split` wide
 pub record Settles (old : Registers) (split : ℕ) (truth : Bool) (new : Registers) : Type 0 where
   pub stands : (block : List ℕ) (low doublings : ℕ) → Stands block old low doublings →
-      let count = doublings_for (part_of old.range split truth) in
+      let count = doublings_for (part_width old.range split truth) in
       Stands block new ((low + lift_of split truth) * 2 ^ count) (doublings + count)
-  pub range : let part = part_of old.range split truth in new.range ≡ part * 2 ^ doublings_for part
+  pub range : let part = part_width old.range split truth in new.range ≡ part * 2 ^ doublings_for part
   pub wide : 0x4000 < new.range
   pub narrow : new.range ≤ 0xFFFF
   pub next : new.next ≡ old.next

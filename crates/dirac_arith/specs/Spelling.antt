@@ -15,13 +15,13 @@ abbrev pub follow_at : List ℕ → ℕ → ℕ
 follow_at follow i = slice_index follow (min i (length follow - 1))
 
 -- digits from number i on, each behind a false follow decision
-abbrev pub opening : List ℕ → ℕ → ℕ → List Bool → List Decision
-opening follow bits i [] = []
-opening follow bits i (b ∷ bs) = (follow_at follow i, false) ∷ (bits, b) ∷ opening follow bits (i + 1) bs
+abbrev pub opening_digits : List ℕ → ℕ → ℕ → List Bool → List Decision
+opening_digits follow bits i [] = []
+opening_digits follow bits i (b ∷ bs) = (follow_at follow i, false) ∷ (bits, b) ∷ opening_digits follow bits (i + 1) bs
 
 -- digits and one more follow decision
 abbrev pub spelt : List ℕ → ℕ → List Bool → Bool → List Decision
-spelt follow bits digits last = opening follow bits 0 digits ++ (follow_at follow (length digits), last) ∷ []
+spelt follow bits digits last = opening_digits follow bits 0 digits ++ (follow_at follow (length digits), last) ∷ []
 
 -- the decisions that spell an unsigned number
 unfoldable pub spelling : List ℕ → ℕ → ℕ → List Decision

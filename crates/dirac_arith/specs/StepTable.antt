@@ -22,5 +22,5 @@ step_table =
     1151 ∷ 1114 ∷ 1077 ∷ 1037 ∷ 995 ∷ 952 ∷ 906 ∷ 857 ∷ 805 ∷ 750 ∷ 690 ∷ 625 ∷ 553 ∷ 471 ∷ 376 ∷ 255 ∷ []
 
 -- the step for the upper byte of a probability
-unfoldable pub step_of : ℕ → ℕ
-step_of upper = slice_index step_table upper
+unfoldable pub probability_step : ℕ → ℕ
+probability_step upper = slice_index step_table upper

@@ -4,10 +4,10 @@ ghost use Rattle.std.specs.Prelude.{false};
 ghost use Rattle.std.specs.Prelude.{List, length, slice_index, IfOk, IfErr, OnErr, Ok, Err};
 ghost use Rattle.dirac_arith.specs.Carried.{Lies};
 ghost use Rattle.dirac_arith.specs.Decoding.{reading_at};
-ghost use Rattle.dirac_arith.specs.Deciding.{Gives, decided, number_read, signed_read};
+ghost use Rattle.dirac_arith.specs.Deciding.{GivesReading, decision_read, number_read, signed_read};
 ghost use Rattle.dirac_arith.specs.Front.{front};
 ghost use Rattle.dirac_arith.specs.Interval.{narrowed, narrowed_by, whole};
-ghost use Rattle.dirac_arith.specs.Reading.{Reading, Reads};
+ghost use Rattle.dirac_arith.specs.Reading.{Reading, DecisionsAreRead};
 ghost use Rattle.dirac_arith.specs.Registers.{Runs, doublings_of};
 ghost use Rattle.dirac_arith.specs.Spelling.{AreContexts, follow_at, signed_spelling, spelling, spelt};
 
@@ -68,7 +68,7 @@ impl<'a> Decoder<'a> {
     pub fn decision(&mut self, ctx: u8) -> Result<bool, Cause>
         requires context { ctx < CONTEXTS }
         requires no_overflow { self.old.at.doublings < 2 ^ 62 }
-        ensures read { Gives result self.new (decided ctx self.old) }
+        ensures read { GivesReading result self.new (decision_read ctx self.old) }
         ensures narrows { IfOk result (λ truth. self.new ≡ record {
           block = self.old.block;
           at = narrowed self.old.at (ctx, truth);
@@ -98,7 +98,7 @@ impl<'a> Decoder<'a> {
     pub fn foreseen(&mut self, ctx: u8) -> Result<bool, Cause>
         requires context { ctx < CONTEXTS }
         requires no_overflow { self.old.at.doublings < 2 ^ 62 }
-        ensures read { Gives result self.new (decided ctx self.old) }
+        ensures read { GivesReading result self.new (decision_read ctx self.old) }
         ensures narrows { IfOk result (λ truth. self.new ≡ record {
           block = self.old.block;
           at = narrowed self.old.at (ctx, truth);
@@ -154,7 +154,7 @@ impl<'a> Decoder<'a> {
         requires context { ctx < CONTEXTS }
         requires runs { Runs self.old.block registers }
         requires no_overflow { doublings_of registers < 2 ^ 62 }
-        ensures read { decided ctx (reading_at self.old registers)
+        ensures read { decision_read ctx (reading_at self.old registers)
             ≡ Ok (result.truth, reading_at self.new result.registers) }
         ensures runs { Runs self.new.block result.registers }
         ensures few_doublings { doublings_of result.registers ≤ doublings_of registers + 9 }
@@ -185,12 +185,12 @@ impl<'a> Decoder<'a> {
         requires follow { AreContexts follow.now }
         requires bits { bits < CONTEXTS }
         requires no_overflow { self.old.at.doublings < 2 ^ 61 }
-        ensures read { Gives result self.new (number_read follow.now bits self.old) }
-        ensures found { IfOk result (λ v. Reads self.old (spelling follow.now bits v) self.new) }
+        ensures read { GivesReading result self.new (number_read follow.now bits self.old) }
+        ensures found { IfOk result (λ v. DecisionsAreRead self.old (spelling follow.now bits v) self.new) }
         ensures below_2_39 { IfOk result (λ v. v < 2 ^ 39 - 1) }
         ensures long { result ≡ Err Cause.NumberTooLong →
             (digits : List Bool) × (length digits ≡ MOST_DIGITS)
-            × Reads self.old (spelt follow.now bits digits false) self.new }
+            × DecisionsAreRead self.old (spelt follow.now bits digits false) self.new }
         ensures number { (v : ℕ) → v < 2 ^ 39 - 1 → Lies self.old.block
             (narrowed_by self.old.at (spelling follow.now bits v)) →
             result ≡ Ok v }
@@ -213,11 +213,11 @@ impl<'a> Decoder<'a> {
         requires follow { AreContexts follow.now }
         requires bits { bits < CONTEXTS }
         requires no_overflow { self.old.at.doublings < 2 ^ 61 }
-        ensures found { IfOk result (λ v. Reads self.old (spelling follow.now bits v) self.new) }
+        ensures found { IfOk result (λ v. DecisionsAreRead self.old (spelling follow.now bits v) self.new) }
         ensures below_2_39 { IfOk result (λ v. v < 2 ^ 39 - 1) }
         ensures long { result ≡ Err Cause.NumberTooLong →
             (digits : List Bool) × (length digits ≡ MOST_DIGITS)
-            × Reads self.old (spelt follow.now bits digits false) self.new }
+            × DecisionsAreRead self.old (spelt follow.now bits digits false) self.new }
         ensures refused { (result ≡ Err Cause.CodeWord) ↔ (front self.old.block 16 ≡ 0xFFFF) }
         ensures no_other_cause { IfErr result (λ e. (e ≡ Cause.CodeWord) ⊎ (e ≡ Cause.NumberTooLong)) }
         ensures unchanged { result ≡ Err Cause.CodeWord → self.new ≡ self.old }
@@ -247,12 +247,12 @@ impl<'a> Decoder<'a> {
         requires bits { bits < CONTEXTS }
         requires sign { sign < CONTEXTS }
         requires no_overflow { self.old.at.doublings < 2 ^ 61 }
-        ensures read { Gives result self.new (signed_read follow.now bits sign self.old) }
-        ensures found { IfOk result (λ v. Reads self.old (signed_spelling follow.now bits sign v) self.new) }
+        ensures read { GivesReading result self.new (signed_read follow.now bits sign self.old) }
+        ensures found { IfOk result (λ v. DecisionsAreRead self.old (signed_spelling follow.now bits sign v) self.new) }
         ensures below_2_39 { IfOk result (λ v. nat_abs v < 2 ^ 39 - 1) }
         ensures long { result ≡ Err Cause.NumberTooLong →
             (digits : List Bool) × (length digits ≡ MOST_DIGITS)
-            × Reads self.old (spelt follow.now bits digits false) self.new }
+            × DecisionsAreRead self.old (spelt follow.now bits digits false) self.new }
         ensures number { (v : ℤ) → nat_abs v < 2 ^ 39 - 1 → Lies self.old.block
             (narrowed_by self.old.at (signed_spelling follow.now bits sign v)) →
             result ≡ Ok v }
@@ -276,11 +276,11 @@ impl<'a> Decoder<'a> {
         requires bits { bits < CONTEXTS }
         requires sign { sign < CONTEXTS }
         requires no_overflow { self.old.at.doublings < 2 ^ 61 }
-        ensures found { IfOk result (λ v. Reads self.old (signed_spelling follow.now bits sign v) self.new) }
+        ensures found { IfOk result (λ v. DecisionsAreRead self.old (signed_spelling follow.now bits sign v) self.new) }
         ensures below_2_39 { IfOk result (λ v. nat_abs v < 2 ^ 39 - 1) }
         ensures long { result ≡ Err Cause.NumberTooLong →
             (digits : List Bool) × (length digits ≡ MOST_DIGITS)
-            × Reads self.old (spelt follow.now bits digits false) self.new }
+            × DecisionsAreRead self.old (spelt follow.now bits digits false) self.new }
         ensures refused { (result ≡ Err Cause.CodeWord) ↔ (front self.old.block 16 ≡ 0xFFFF) }
         ensures no_other_cause { IfErr result (λ e. (e ≡ Cause.CodeWord) ⊎ (e ≡ Cause.NumberTooLong)) }
         ensures unchanged { result ≡ Err Cause.CodeWord → self.new ≡ self.old }
@@ -302,8 +302,8 @@ impl<'a> Decoder<'a> {
         requires bits { bits < CONTEXTS }
         requires sign { sign < CONTEXTS }
         requires no_overflow { self.old.at.doublings < 2 ^ 61 + 9 }
-        ensures read { (before : Reading) → decided (follow_at follow.now 0) before ≡ Ok (false, self.old) →
-            Gives result self.new (signed_read follow.now bits sign before) }
+        ensures read { (before : Reading) → decision_read (follow_at follow.now 0) before ≡ Ok (false, self.old) →
+            GivesReading result self.new (signed_read follow.now bits sign before) }
         ensures few_doublings { self.new.at.doublings ≤ self.old.at.doublings + 693 }
     {
         let magnitude = self.magnitude_behind(follow, bits)?;
@@ -318,8 +318,8 @@ impl<'a> Decoder<'a> {
         requires follow { AreContexts follow.now }
         requires bits { bits < CONTEXTS }
         requires no_overflow { self.old.at.doublings < 2 ^ 61 + 9 }
-        ensures read { (before : Reading) → decided (follow_at follow.now 0) before ≡ Ok (false, self.old) →
-            Gives result self.new (number_read follow.now bits before) }
+        ensures read { (before : Reading) → decision_read (follow_at follow.now 0) before ≡ Ok (false, self.old) →
+            GivesReading result self.new (number_read follow.now bits before) }
         ensures not_zero { IfOk result (λ v. 1 ≤ v) }
         ensures below_2_39 { IfOk result (λ v. v < 2 ^ 39 - 1) }
         ensures few_doublings { self.new.at.doublings ≤ self.old.at.doublings + 684 }

@@ -3,7 +3,7 @@ ghost use Rattle.std.specs.Prelude.{◌≡◌, ◌+◌, ◌-◌, ◌*◌, ◌/�
 ghost use Rattle.std.specs.Prelude.{slice_index, IfOk, OnOk, OnErr};
 ghost use Rattle.dirac_arith.specs.Interval.{Decision, InContexts, doublings_for, narrowed, narrowed_by, whole};
 ghost use Rattle.dirac_arith.specs.Interval.{interval_of};
-ghost use Rattle.dirac_arith.specs.Registers.{part_of, lift_of};
+ghost use Rattle.dirac_arith.specs.Registers.{part_width, lift_of};
 ghost use Rattle.dirac_arith.specs.Spelling.{AreContexts, signed_spelling, spelling};
 ghost use Rattle.dirac_arith.specs.Written.{flush};
 
@@ -30,9 +30,9 @@ impl Model for Encoder {
 
     ghost Value = { Interval };
 
-    ghost use Rattle.dirac_arith.specs.Encoding.{encoding, IsEncoding};
+    ghost use Rattle.dirac_arith.specs.Encoding.{exact_interval, IsEncoding};
 
-    ghost view = { encoding };
+    ghost view = { exact_interval };
 
     ghost invariant = { IsEncoding };
 }
@@ -53,10 +53,10 @@ fn sub_interval_after(range: u32, probability: u16, truth: bool) -> SubInterval
     requires some_probability { 254 ≤ probability }
     requires most_probability { probability ≤ 65281 }
     ensures lift { result.lift ≡ lift_of (range * probability / 2 ^ 16) truth }
-    ensures doublings { result.doublings ≡ doublings_for (part_of range (range * probability / 2 ^ 16) truth) }
-    ensures range { let part = part_of range (range * probability / 2 ^ 16) truth in
+    ensures doublings { result.doublings ≡ doublings_for (part_width range (range * probability / 2 ^ 16) truth) }
+    ensures range { let part = part_width range (range * probability / 2 ^ 16) truth in
         result.range ≡ part * 2 ^ doublings_for part }
-    ensures within { result.lift + part_of range (range * probability / 2 ^ 16) truth ≤ range }
+    ensures within { result.lift + part_width range (range * probability / 2 ^ 16) truth ≤ range }
     ensures few_doublings { result.doublings ≤ 9 }
     ensures wide { 0x4000 < result.range }
     ensures narrow { result.range ≤ 0xFFFF }

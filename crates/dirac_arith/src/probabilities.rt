@@ -1,15 +1,15 @@
 //! The probabilities of contexts.
 ghost use Rattle.std.specs.Prelude.{◌≡◌, ◌+◌, ◌-◌, ◌*◌, ◌/◌, ◌^◌, ◌<◌, ◌≤◌, ℕ, List, slice_index, if◌then◌else◌};
 ghost use Rattle.dirac_arith.specs.Interval.{adapted};
-ghost use Rattle.dirac_arith.specs.StepTable.{step_of};
+ghost use Rattle.dirac_arith.specs.StepTable.{probability_step};
 
 use crate::tables::STEPS;
 
 /// By how much a decision moves a probability of this upper byte.
-#[tactic(auto, unfolding(crate::specs::StepTable::step_of, crate::specs::StepTable::step_table))]
+#[tactic(auto, unfolding(crate::specs::StepTable::probability_step, crate::specs::StepTable::step_table))]
 fn step(upper: u16) -> u16
     requires { upper < 256 }
-    ensures { result ≡ step_of upper }
+    ensures { result ≡ probability_step upper }
 {
     STEPS[upper as usize]
 }

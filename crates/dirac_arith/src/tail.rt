@@ -2,7 +2,7 @@
 ghost use Rattle.std.specs.Prelude.{◌≡◌, ◌+◌, ◌-◌, ◌*◌, ◌/◌, ◌^◌, ◌<◌, ◌≤◌, ℕ, List, length, OnOk, IsTrue, ◌↔◌, ◌%◌};
 ghost use Rattle.std.specs.Prelude.{true};
 ghost use Rattle.dirac_arith.specs.Tail.{bytes_from};
-ghost use Rattle.dirac_arith.specs.Written.{bytes_of};
+ghost use Rattle.dirac_arith.specs.Written.{number_in_bytes};
 
 use dirac_common::NoMemory;
 use std::alloc::Global;
@@ -145,7 +145,7 @@ impl Tail {
     pub fn into_bytes(self) -> Vec<u8>
         requires whole { self.pending ≡ 0 }
         requires settled { self.register < 2 ^ 16 }
-        ensures { result.items ≡ bytes_of (self.doublings / 8) (self.value / 2 ^ 16) }
+        ensures { result.items ≡ number_in_bytes (self.doublings / 8) (self.value / 2 ^ 16) }
     {
         self.bytes
     }

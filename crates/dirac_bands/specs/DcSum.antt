@@ -23,8 +23,8 @@ prediction_in xs width x y =
     else mean_of_three (value_at xs width (x - 1) y) (value_at xs width x (y - 1)) (value_at xs width (x - 1) (y - 1))
 
 -- that of a table
-abbrev pub prediction : Table → ℕ → ℕ → ℤ
-prediction t x y = prediction_in t.values t.width x y
+abbrev pub dc_prediction : Table → ℕ → ℕ → ℤ
+dc_prediction t x y = prediction_in t.values t.width x y
 
 -- at every place the sum is the difference plus the prediction that the sums give
 pub record IsDcSum (differences sums : Table) : Type 0 where
@@ -32,7 +32,7 @@ pub record IsDcSum (differences sums : Table) : Type 0 where
   pub height : sums.height ≡ differences.height
   pub len : length sums.values ≡ length differences.values
   pub each : (x y : ℕ) → x < sums.width → y < sums.height → table_at sums x y
-      ≡ table_at differences x y +ℤ prediction sums x y
+      ≡ table_at differences x y +ℤ dc_prediction sums x y
 
 -- the sums of the first differences, by rows: each place's prediction is read off the sums before it
 unfoldable pub sums_up_to : List ℤ → ℕ → ℕ → List ℤ

@@ -5,13 +5,13 @@ use Rattle.std.specs.List.{range_with_len}
 use Rattle.dirac_common.specs.Table.{Table, table_at, table_of}
 
 -- the band that a place of the plane belongs to
-abbrev pub band_at : Table → Table → Table → Table → ℕ → ℕ → Table
-band_at ll hl lh hh x y =
+abbrev pub band_holding : Table → Table → Table → Table → ℕ → ℕ → Table
+band_holding ll hl lh hh x y =
     if y % 2 == 0 then (if x % 2 == 0 then ll else hl) else (if x % 2 == 0 then lh else hh)
 
 -- the value of the plane in column x of row y
 abbrev pub joined_at : Table → Table → Table → Table → ℕ → ℕ → ℤ
-joined_at ll hl lh hh x y = table_at (band_at ll hl lh hh x y) (x / 2) (y / 2)
+joined_at ll hl lh hh x y = table_at (band_holding ll hl lh hh x y) (x / 2) (y / 2)
 
 -- the plane that four bands of one size interleave to
 abbrev pub joined : Table → Table → Table → Table → Table

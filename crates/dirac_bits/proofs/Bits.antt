@@ -3,7 +3,7 @@ use Rattle.std.proofs.Common.{◌≡◌, ℕ, zero, suc, ◌+◌, ◌-◌, ◌*�
 use Rattle.std.proofs.lemmas.List.{drop-drop, drop_all}
 use Rattle.dirac_common.specs.declared.faults.Cause.TheVariants.{UnitShort}
 use Rattle.dirac_common.specs.Bits.{is_bit_set, bits_of}
-use Rattle.dirac_bits.specs.Cursor.{bits_left, first_of, bit_next}
+use Rattle.dirac_bits.specs.Cursor.{bits_left, first_bit_of, bit_next}
 
 -- eight bits a byte
 pub length-bits_of : (bytes : List ℕ) → length (bits_of bytes) ≡ 8 * length bytes
@@ -44,10 +44,10 @@ pub bit_next_is : (byte bit at : ℕ) (bytes : List ℕ) → at ≡ 8 * byte + b
     → bit_next (record { bytes = bytes; at = at }) ≡ Ok (is_bit_set (get_or bytes byte 0) (7 - bit), record { bytes = bytes; at = at + 1 })
 unfolding bit_next bits_left
 bit_next_is byte bit at bytes e inside below =
-    ap (λ bits. first_of bits (record { bytes = bytes; at = at })) (drop_bits byte bit at bytes e inside below)
+    ap (λ bits. first_bit_of bits (record { bytes = bytes; at = at })) (drop_bits byte bit at bytes e inside below)
 
 -- and where there is none
 pub no_bit_next : (at : ℕ) (bytes : List ℕ) → 8 * length bytes ≤ at → bit_next (record { bytes = bytes; at = at }) ≡ Err UnitShort
 unfolding bit_next bits_left
 no_bit_next at bytes past =
-    ap (λ bits. first_of bits (record { bytes = bytes; at = at })) (drop_all at (bits_of bytes) (omega (arith, length-bits_of bytes)))
+    ap (λ bits. first_bit_of bits (record { bytes = bytes; at = at })) (drop_all at (bits_of bytes) (omega (arith, length-bits_of bytes)))

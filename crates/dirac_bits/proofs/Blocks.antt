@@ -8,7 +8,7 @@ use Rattle.dirac_common.specs.declared.faults.Cause.{Cause}
 use Rattle.dirac_common.specs.declared.faults.Cause.TheVariants.{UnitShort}
 use Rattle.dirac_common.specs.Bits.{byte_bits, bits_of, number_from}
 use Rattle.dirac_bits.specs.Cursor.{Cursor, skip, bits_left, Passes}
-use Rattle.dirac_bits.specs.Fields.{bits_on, bytes_on, from, block_at}
+use Rattle.dirac_bits.specs.Fields.{bits_on, bytes_on, from, block_read_at}
 use Rattle.dirac_bits.proofs.Passing.{same_answer, length-bits_left, none_passed, passes_none, passes_join, passes_front}
 use Rattle.dirac_bits.proofs.Spelled.{from_ok}
 use Rattle.dirac_bits.proofs.Literals.{bits_on_spelled, bits_on_read, bits_on_short, number_from-byte, byte_left, next_byte, none_left}
@@ -26,8 +26,8 @@ bytes_spelled (b ∷ bytes) c d below p =
     let first = byte_spelled b c m below.0 parts.0 in
     rw (first.0, bytes_spelled bytes m d below.1 parts.1, first.1) refl
 
-pub block_spelled : (bytes : List ℕ) (len : ℕ) (c d : Cursor) → length bytes ≡ len → AllByRecursion (λ b. b < 2 ^ 8) bytes → Passes c (bits_of bytes) d → block_at len c ≡ Ok (bytes, d)
-unfolding block_at
+pub block_spelled : (bytes : List ℕ) (len : ℕ) (c d : Cursor) → length bytes ≡ len → AllByRecursion (λ b. b < 2 ^ 8) bytes → Passes c (bits_of bytes) d → block_read_at len c ≡ Ok (bytes, d)
+unfolding block_read_at
 block_spelled bytes len c d count below p = rw (← count) (ap (from c) (bytes_spelled bytes c d below p))
 
 -- a block that was read
@@ -86,8 +86,8 @@ bytes_read zero c bytes d e =
     subst (λ (y : List ℕ). Block 0 c y d) same.0 (subst (λ (m : Cursor). Block 0 c [] m) same.1 here)
 bytes_read (suc n) c bytes d e = first_byte n c bytes d (bits_on 8 c) refl e (λ m. bytes_read n m)
 
-pub block_read : (bytes : List ℕ) (len : ℕ) (c d : Cursor) → block_at len c ≡ Ok (bytes, d) → Block len c bytes d
-unfolding block_at
+pub block_read : (bytes : List ℕ) (len : ℕ) (c d : Cursor) → block_read_at len c ≡ Ok (bytes, d) → Block len c bytes d
+unfolding block_read_at
 block_read bytes len c d e = bytes_read len c bytes d (from_ok c (bytes_on len c) bytes d e)
 
 -- ---- blocks of whole bytes

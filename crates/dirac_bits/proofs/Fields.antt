@@ -7,7 +7,7 @@ use Rattle.dirac_common.specs.declared.faults.Cause.{Cause}
 use Rattle.dirac_common.specs.Bits.{bits_of}
 use Rattle.dirac_common.specs.Numbers as numbers
 use Rattle.dirac_bits.specs.Spelling.{Spells, SpelledBehind}
-use Rattle.dirac_bits.specs.Syntax.{Syntax, done, flag_then, uint_then, sint_then, literal_then, block_then, align_then, here_then, refuse, ◌>>=◌, field, between}
+use Rattle.dirac_bits.specs.Syntax.{Syntax, done, flag_then, uint_then, sint_then, literal_then, block_then, align_then, here_then, refuse, ◌>>=◌, number_field, between}
 use Rattle.dirac_bits.specs.Writing.{gap}
 
 -- the parts of what is spelled, with more bits behind it
@@ -68,7 +68,7 @@ behind_then s f y x old mid new a b =
     }
 
 -- a number that the rule of its field allows
-pub field_spelled : (cause : Cause) (allows : ℕ → Bool) (n k : ℕ) → n + 1 < 2 ^ 39 → allows n ≡ true → Spells (field cause allows) n k (numbers.uint n)
+pub field_spelled : (cause : Cause) (allows : ℕ → Bool) (n k : ℕ) → n + 1 < 2 ^ 39 → allows n ≡ true → Spells (number_field cause allows) n k (numbers.uint n)
 field_spelled cause allows n k small allowed =
     let after = k + length (numbers.uint n) in
     (n, [], small, sym (append-nil (numbers.uint n)), subst (λ t. Spells (if t then done n else refuse (k / 8) cause) n after []) (sym allowed) (refl, refl))

@@ -5,8 +5,8 @@ use Rattle.dirac_common.specs.declared.faults.Cause.TheVariants.{UnitShort}
 use Rattle.dirac_common.specs.Bits.{is_bit_set, byte_bits, bits_of, bit_value, number_from}
 use Rattle.dirac_common.specs.Numbers.{literal}
 use Rattle.dirac_common.specs.Chain.{◌>>=◌}
-use Rattle.dirac_bits.specs.Cursor.{Cursor, skip, bits_left, first_of, bit_next, Passes}
-use Rattle.dirac_bits.specs.Fields.{bits_on, number_of, literal_on, literal_at}
+use Rattle.dirac_bits.specs.Cursor.{Cursor, skip, bits_left, first_bit_of, bit_next, Passes}
+use Rattle.dirac_bits.specs.Fields.{bits_on, number_from_bits, literal_on, literal_at}
 use Rattle.dirac_bits.proofs.Bits.{drop_byte}
 use Rattle.dirac_bits.proofs.Passing.{same_answer, left_behind, length-bits_left, passes_bit, bit_passed, none_passed, passes_none, passes_join}
 use Rattle.dirac_bits.proofs.Spelled.{from_ok}
@@ -59,7 +59,7 @@ short_cases : (n : ℕ) (c : Cursor) (left : List Bool) → bits_left c ≡ left
     → ((e : Cursor) → length (bits_left e) < n → bits_on n e ≡ Err UnitShort) → bits_on (suc n) c ≡ Err UnitShort
 unfolding bits_on bit_next
 short_cases n c [] is few more =
-    let next : bit_next c ≡ Err UnitShort = ap (λ bits. first_of bits c) is in
+    let next : bit_next c ≡ Err UnitShort = ap (λ bits. first_bit_of bits c) is in
     rw is refl
 short_cases n c (b ∷ left) is few more =
     let behind : bits_left (skip 1 c) ≡ left = left_behind 1 c ∙ ap (λ bits. drop 1 bits) is in
@@ -260,10 +260,10 @@ pub record Literal (c : Cursor) (v : ℕ) (d : Cursor) : Type 0 where
   pub passes : Passes c (literal v) d
 
 literal_cases : (c : Cursor) (v : ℕ) (d : Cursor) (r : Result (List Bool × Cursor) Cause) → bits_on 32 c ≡ r
-    → (r >>= number_of) ≡ Ok (v, d) → Literal c v d
+    → (r >>= number_from_bits) ≡ Ok (v, d) → Literal c v d
 literal_cases c v d (Ok x) is whole =
     let taken = bits_on_read 32 c x.0 x.1 is in
-    let same = same_answer (number_from 0 x.0) v x.1 d (number_of x) refl whole in
+    let same = same_answer (number_from 0 x.0) v x.1 d (number_from_bits x) refl whole in
     let four = bytes_of x.0 taken.count in
     let number = ap (λ bits. number_from 0 bits) four.parts ∙ four_bytes four.a four.b four.c four.d four.below.0 four.below.1 four.below.2 four.below.3 in
     let spelled : literal v ≡ x.0 = literal_of v four.a four.b four.c four.d four.below.0 four.below.1 four.below.2 four.below.3 (sym same.0 ∙ number) ∙ sym four.parts in
@@ -275,4 +275,4 @@ literal_cases c v d (Err cause) is whole = absurd cc
 
 pub literal_read : (v : ℕ) (c d : Cursor) → literal_at c ≡ Ok (v, d) → Literal c v d
 unfolding literal_at literal_on
-literal_read v c d e = literal_cases c v d (bits_on 32 c) refl (from_ok c (bits_on 32 c >>= number_of) v d e)
+literal_read v c d e = literal_cases c v d (bits_on 32 c) refl (from_ok c (bits_on 32 c >>= number_from_bits) v d e)

@@ -2,7 +2,7 @@
 use Rattle.std.proofs.Common.{◌≡◌, ℕ, ◌+◌, ◌-◌, ◌*◌, ◌/◌, ◌≤◌, Bool, List, [], ◌∷◌, ◌++◌, length, drop, take, refl, sym, ap, subst, ◌∙◌, arith, append_assoc, length-append, length-drop, Result, Ok}
 use Rattle.std.proofs.lemmas.List.{drop-drop, drop_at, take-append-drop, length-take}
 use Rattle.dirac_common.specs.Bits.{bits_of}
-use Rattle.dirac_bits.specs.Cursor.{Cursor, skip, aligned, bits_left, first_of, bit_next, Passes}
+use Rattle.dirac_bits.specs.Cursor.{Cursor, skip, aligned, bits_left, first_bit_of, bit_next, Passes}
 use Rattle.dirac_bits.proofs.Bits.{length-bits_of}
 
 -- places in the same bytes at the same bit
@@ -57,12 +57,12 @@ passes_join a b c m d p q = record {
 -- the first of them is the next bit
 pub passes_bit : (b : Bool) (bits : List Bool) (c d : Cursor) → Passes c (b ∷ bits) d → (bit_next c ≡ Ok (b, skip 1 c)) × Passes (skip 1 c) bits d
 unfolding bit_next
-passes_bit b bits c d p = (ap (λ left. first_of left c) p.front, (passes_front (b ∷ []) bits c d p).1)
+passes_bit b bits c d p = (ap (λ left. first_bit_of left c) p.front, (passes_front (b ∷ []) bits c d p).1)
 
-bit_passed_as : (left : List Bool) (b : Bool) (c d : Cursor) → bits_left c ≡ left → first_of left c ≡ Ok (b, d) → Passes c (b ∷ []) d
+bit_passed_as : (left : List Bool) (b : Bool) (c d : Cursor) → bits_left c ≡ left → first_bit_of left c ≡ Ok (b, d) → Passes c (b ∷ []) d
 bit_passed_as [] b c d is e = absurd cc
 bit_passed_as (x ∷ left) b c d is e =
-    let both = same_answer x b (skip 1 c) d (first_of (x ∷ left) c) refl e in
+    let both = same_answer x b (skip 1 c) d (first_bit_of (x ∷ left) c) refl e in
     let one : x ≡ b = both.0 in
     let behind : skip 1 c ≡ d = both.1 in
     let rest : bits_left (skip 1 c) ≡ left = left_behind 1 c ∙ ap (λ bits. drop 1 bits) is in

@@ -5,7 +5,7 @@ use Rattle.dirac_common.specs.Bits.{bits_of}
 use Rattle.dirac_common.specs.Numbers as numbers
 use Rattle.dirac_common.specs.Chain.{◌>>=◌}
 use Rattle.dirac_bits.specs.Cursor.{Cursor, place, skip, aligned, Passes}
-use Rattle.dirac_bits.specs.Fields.{flag_at, uint_at, sint_at, literal_at, block_at}
+use Rattle.dirac_bits.specs.Fields.{flag_at, uint_at, sint_at, literal_at, block_read_at}
 use Rattle.dirac_bits.specs.Syntax.{Syntax, done, flag_then, uint_then, sint_then, literal_then, block_then, align_then, here_then, refuse, read}
 use Rattle.dirac_bits.specs.Spelling.{Spells}
 use Rattle.dirac_bits.specs.Laws.{BeginsWith}
@@ -44,7 +44,7 @@ spelled_read (literal_then f) x c d bits e p =
 spelled_read (block_then len f) x c d bits e p =
     let q = passes_front (bits_of e.0) e.1 c d (subst (λ (b : List Bool). Passes c b d) e.3 p) in
     let m = skip (length (bits_of e.0)) c in
-    then_read (block_at len c) (λ n. read (f n.0) n.1) e.0 m (x, d) (block_spelled e.0 len c m e.2.0 e.2.1 q.0) (spelled_read (f e.0) x m d e.1 e.4 q.1)
+    then_read (block_read_at len c) (λ n. read (f n.0) n.1) e.0 m (x, d) (block_spelled e.0 len c m e.2.0 e.2.1 q.0) (spelled_read (f e.0) x m d e.1 e.4 q.1)
 spelled_read (align_then s) x c d bits e p =
     let q = passes_front e.0 e.1 c d (subst (λ (b : List Bool). Passes c b d) e.3 p) in
     let m = skip (length e.0) c in
@@ -114,7 +114,7 @@ read_spelled (literal_then f) x c d inside e =
       passes = passes_join first more.bits c t.behind d p.passes more.passes;
     }
 read_spelled (block_then len f) x c d inside e =
-    let t = was_read (block_at len c) (λ n. read (f n.0) n.1) (x, d) e in
+    let t = was_read (block_read_at len c) (λ n. read (f n.0) n.1) (x, d) e in
     let p = block_read t.value len c t.behind t.first in
     let first = bits_of t.value in
     let more = read_spelled (f t.value) x t.behind d (passes_inside first c t.behind p.passes inside) t.second in

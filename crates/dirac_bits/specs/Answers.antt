@@ -6,19 +6,20 @@ use Rattle.dirac_common.specs.declared.faults.Stop.TheVariants as stop
 use Rattle.dirac_bits.specs.Cursor.{Cursor}
 
 -- the reader answers what is read, seen by `view`, and stands behind it; after a refusal it stands where it stood
-abbrev pub Takes : {X Y : Type 0} → (X → Y) → Result X Refusal → Cursor → Cursor → Result (Y × Cursor) Refusal → Type 0
-Takes view (Ok x) old new read = read ≡ Ok (view x, new)
-Takes view (Err e) old new read = (read ≡ Err e) × (new ≡ old)
+abbrev pub TakesSeenBy : {X Y : Type 0} → (X → Y) → Result X Refusal → Cursor → Cursor → Result (Y × Cursor) Refusal
+    → Type 0
+TakesSeenBy view (Ok x) old new read = read ≡ Ok (view x, new)
+TakesSeenBy view (Err e) old new read = (read ≡ Err e) × (new ≡ old)
 
 -- the same, where nothing is said of the reader after a refusal
-abbrev pub Reads : {X Y : Type 0} → (X → Y) → Result X Refusal → Cursor → Result (Y × Cursor) Refusal → Type 0
-Reads view (Ok x) new read = read ≡ Ok (view x, new)
-Reads view (Err e) new read = read ≡ Err e
+abbrev pub ReadsSeenBy : {X Y : Type 0} → (X → Y) → Result X Refusal → Cursor → Result (Y × Cursor) Refusal → Type 0
+ReadsSeenBy view (Ok x) new read = read ≡ Ok (view x, new)
+ReadsSeenBy view (Err e) new read = read ≡ Err e
 
 -- the answer is this one, seen by `view`
-abbrev pub Gives : {X Y E : Type 0} → (X → Y) → Result X E → Result Y E → Type 0
-Gives view (Ok x) read = read ≡ Ok (view x)
-Gives view (Err e) read = read ≡ Err e
+abbrev pub GivesSeenBy : {X Y E : Type 0} → (X → Y) → Result X E → Result Y E → Type 0
+GivesSeenBy view (Ok x) read = read ≡ Ok (view x)
+GivesSeenBy view (Err e) read = read ≡ Err e
 
 -- the answer of a reader that takes memory is what is read, and the reader stands behind it; want of memory says
 -- nothing of the input

@@ -13,9 +13,9 @@ abbrev pub cursor_at : List ℕ → BitPlace → Cursor
 cursor_at bytes bit_place = record { bytes = bytes; at = bit_number bit_place }
 
 -- what was read, and the bit behind it
-abbrev pub Steps : {X : Type 0} → List ℕ → Result (X × BitPlace) Cause → Result (X × Cursor) Cause → Type 0
-Steps bytes (Ok x) read = read ≡ Ok (x.0, cursor_at bytes x.1)
-Steps bytes (Err cause) read = read ≡ Err cause
+abbrev pub ReadsToBitPlace : {X : Type 0} → List ℕ → Result (X × BitPlace) Cause → Result (X × Cursor) Cause → Type 0
+ReadsToBitPlace bytes (Ok x) read = read ≡ Ok (x.0, cursor_at bytes x.1)
+ReadsToBitPlace bytes (Err cause) read = read ≡ Err cause
 
 -- the same of a value seen by `view`
 abbrev pub StepsBy : {X Y : Type 0} → (X → Y) → List ℕ → Result (X × BitPlace) Cause → Result (Y × Cursor) Cause

@@ -34,13 +34,13 @@ unfoldable pub bits_left : Cursor → List Bool
 bits_left c = drop c.at (bits_of c.bytes)
 
 -- the first of these bits, which are those left
-abbrev pub first_of : List Bool → Cursor → Result (Bool × Cursor) Cause
-first_of [] c = Err UnitShort
-first_of (b ∷ bits) c = Ok (b, skip 1 c)
+abbrev pub first_bit_of : List Bool → Cursor → Result (Bool × Cursor) Cause
+first_bit_of [] c = Err UnitShort
+first_bit_of (b ∷ bits) c = Ok (b, skip 1 c)
 
 -- the next bit
 unfoldable pub bit_next : Cursor → Result (Bool × Cursor) Cause
-bit_next c = first_of (bits_left c) c
+bit_next c = first_bit_of (bits_left c) c
 
 -- the bits left begin with these, and the second place is just behind them
 pub record Passes (c : Cursor) (bits : List Bool) (d : Cursor) : Type 0 where

@@ -58,12 +58,12 @@ unfoldable pub sint_at : Cursor → Result (ℤ × Cursor) Refusal
 sint_at c = from c (signed_on c)
 
 -- these bits as a number, the most significant first
-abbrev pub number_of : List Bool × Cursor → Result (ℕ × Cursor) Cause
-number_of bits = Ok (number_from 0 bits.0, bits.1)
+abbrev pub number_from_bits : List Bool × Cursor → Result (ℕ × Cursor) Cause
+number_from_bits bits = Ok (number_from 0 bits.0, bits.1)
 
 -- the number of the next 32 bits
 unfoldable pub literal_on : Cursor → Result (ℕ × Cursor) Cause
-literal_on c = bits_on 32 c >>= number_of
+literal_on c = bits_on 32 c >>= number_from_bits
 
 -- a literal
 unfoldable pub literal_at : Cursor → Result (ℕ × Cursor) Refusal
@@ -78,5 +78,5 @@ bytes_on (suc n) c = do
   Ok (number_from 0 bits.0 ∷ more.0, more.1)
 
 -- a block of that many bytes
-unfoldable pub block_at : ℕ → Cursor → Result (List ℕ × Cursor) Refusal
-block_at len c = from c (bytes_on len c)
+unfoldable pub block_read_at : ℕ → Cursor → Result (List ℕ × Cursor) Refusal
+block_read_at len c = from c (bytes_on len c)

@@ -4,7 +4,7 @@ use Rattle.dirac_common.specs.declared.faults.Cause.{Cause}
 use Rattle.dirac_common.specs.declared.faults.Refusal.{Refusal}
 use Rattle.dirac_common.specs.Chain.{◌>>=◌ as ◌>>◌}
 use Rattle.dirac_bits.specs.Cursor.{Cursor, place, aligned}
-use Rattle.dirac_bits.specs.Fields.{flag_at, uint_at, sint_at, literal_at, block_at}
+use Rattle.dirac_bits.specs.Fields.{flag_at, uint_at, sint_at, literal_at, block_read_at}
 
 -- the fields of a header and, behind the last, the value that they spell; which field comes next may depend on those
 -- before
@@ -67,14 +67,14 @@ read (flag_then f) c = flag_at c >> λ b. read (f b.0) b.1
 read (uint_then f) c = uint_at c >> λ n. read (f n.0) n.1
 read (sint_then f) c = sint_at c >> λ z. read (f z.0) z.1
 read (literal_then f) c = literal_at c >> λ n. read (f n.0) n.1
-read (block_then len f) c = block_at len c >> λ bytes. read (f bytes.0) bytes.1
+read (block_then len f) c = block_read_at len c >> λ bytes. read (f bytes.0) bytes.1
 read (align_then s) c = read s (aligned c)
 read (here_then f) c = read (f (place c)) c
 read (refuse at cause) c = Err (record { at = at; cause = cause })
 
 -- a number that this rule allows; else it is refused at its first bit
-abbrev pub field : Cause → (ℕ → Bool) → Syntax ℕ
-field cause allows = do
+abbrev pub number_field : Cause → (ℕ → Bool) → Syntax ℕ
+number_field cause allows = do
   at ← here
   n ← uint
   if allows n then done n else refuse at cause

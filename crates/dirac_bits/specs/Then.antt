@@ -2,7 +2,7 @@
 use Rattle.std.specs.Prelude.{◌≡◌, refl, Result, Ok, Err}
 use Rattle.dirac_common.specs.Chain.{◌>>=◌ as ◌>>◌}
 use Rattle.dirac_bits.specs.Cursor.{Cursor, place, aligned}
-use Rattle.dirac_bits.specs.Fields.{flag_at, uint_at, sint_at, literal_at, block_at}
+use Rattle.dirac_bits.specs.Fields.{flag_at, uint_at, sint_at, literal_at, block_read_at}
 use Rattle.dirac_bits.specs.Syntax.{Syntax, done, flag_then, uint_then, sint_then, literal_then, block_then, align_then}
 use Rattle.dirac_bits.specs.Syntax.{here_then, refuse, ◌>>=◌, read}
 
@@ -29,7 +29,7 @@ read_then (literal_then g) f c =
     step_then (literal_at c) (λ n. read (g n.0) n.1) (λ x. read (f x.0) x.1) (λ n. read (g n.0
     >>= f) n.1) (λ n. read_then (g n.0) f n.1)
 read_then (block_then len g) f c =
-    step_then (block_at len c) (λ n. read (g n.0) n.1) (λ x. read (f x.0) x.1) (λ n. read (g n.0
+    step_then (block_read_at len c) (λ n. read (g n.0) n.1) (λ x. read (f x.0) x.1) (λ n. read (g n.0
     >>= f) n.1) (λ n. read_then (g n.0) f n.1)
 read_then (align_then s) f c = read_then s f (aligned c)
 read_then (here_then g) f c = read_then (g (place c)) f c

@@ -1,14 +1,14 @@
 ghost use Rattle.std.specs.Prelude.{◌≡◌, ◌+◌, ◌*◌, ◌<◌, ◌≤◌, ◌^◌, length, IfOk, IsOk, ◌↔◌, slice_range, unsigned_abs};
 ghost use Rattle.dirac_bits.specs.Cursor.{bit_next};
 ghost use Rattle.dirac_bits.specs.Fields.{number_on, signed_on, literal_on, bytes_on};
-ghost use Rattle.dirac_bits.specs.BitPlaces.{cursor_at, bit_number, Steps, StepsBy};
+ghost use Rattle.dirac_bits.specs.BitPlaces.{cursor_at, bit_number, ReadsToBitPlace, StepsBy};
 
 use crate::bit_place::BitPlace;
 use dirac_common::{Cause, MOST_DIGITS, with_sign};
 
 /// The bit at `spot`, and the spot behind it.
 pub fn next_bit(bytes: &[u8], bit_place: BitPlace) -> Result<(bool, BitPlace), Cause>
-    ensures value { Steps bytes.now result (bit_next (cursor_at bytes.now bit_place)) }
+    ensures value { ReadsToBitPlace bytes.now result (bit_next (cursor_at bytes.now bit_place)) }
     ensures inside { IfOk result (λ x. bit_number x.1 ≤ 8 * length bytes.now) }
 {
     if bit_place.byte < bytes.len() {
@@ -21,7 +21,7 @@ pub fn next_bit(bytes: &[u8], bit_place: BitPlace) -> Result<(bool, BitPlace), C
 
 /// The unsigned number at `first`, and the spot behind it.
 pub fn next_number(bytes: &[u8], first: BitPlace) -> Result<(u64, BitPlace), Cause>
-    ensures value { Steps bytes.now result (number_on MOST_DIGITS 1 (cursor_at bytes.now first)) }
+    ensures value { ReadsToBitPlace bytes.now result (number_on MOST_DIGITS 1 (cursor_at bytes.now first)) }
     ensures inside { IfOk result (λ x. bit_number x.1 ≤ 8 * length bytes.now) }
     ensures below_2_39 { IfOk result (λ x. x.0 + 1 < 2 ^ 39) }
 {
@@ -47,7 +47,7 @@ pub fn next_number(bytes: &[u8], first: BitPlace) -> Result<(u64, BitPlace), Cau
 /// The signed number at `first`, and the spot behind it.
 #[tactic(auto, unfolding(crate::specs::Fields::sign_on))]
 pub fn next_signed(bytes: &[u8], first: BitPlace) -> Result<(i64, BitPlace), Cause>
-    ensures value { Steps bytes.now result (signed_on (cursor_at bytes.now first)) }
+    ensures value { ReadsToBitPlace bytes.now result (signed_on (cursor_at bytes.now first)) }
     ensures inside { IfOk result (λ x. bit_number x.1 ≤ 8 * length bytes.now) }
     ensures below_2_39 { IfOk result (λ x. unsigned_abs x.0 + 1 < 2 ^ 39) }
 {
@@ -63,7 +63,7 @@ pub fn next_signed(bytes: &[u8], first: BitPlace) -> Result<(i64, BitPlace), Cau
 pub fn next_literal(bytes: &[u8], first: BitPlace) -> Result<(u32, BitPlace), Cause>
     requires aligned { first.bit ≡ 0 }
     requires inside { bit_number first ≤ 8 * length bytes.now }
-    ensures value { Steps bytes.now result (literal_on (cursor_at bytes.now first)) }
+    ensures value { ReadsToBitPlace bytes.now result (literal_on (cursor_at bytes.now first)) }
     ensures inside { IfOk result (λ x. bit_number x.1 ≤ 8 * length bytes.now) }
     ensures aligned { IfOk result (λ x. x.1.bit ≡ 0) }
 {

@@ -1,9 +1,9 @@
 ghost use Rattle.std.specs.Prelude.{◌≡◌, ℕ, ℤ, ◌+◌, ◌*◌, ◌<◌, ◌≤◌, ◌^◌, List, length, IfOk, IfErr, IsOk, ◌↔◌};
 ghost use Rattle.std.specs.Prelude.{slice_range, unsigned_abs};
 ghost use Rattle.dirac_bits.specs.Cursor.{place, aligned, start, IsAligned};
-ghost use Rattle.dirac_bits.specs.Fields.{flag_at, uint_at, sint_at, literal_at, block_at};
-ghost use Rattle.dirac_bits.specs.Syntax.{between, field, read};
-ghost use Rattle.dirac_bits.specs.Answers.{Reads, Takes};
+ghost use Rattle.dirac_bits.specs.Fields.{flag_at, uint_at, sint_at, literal_at, block_read_at};
+ghost use Rattle.dirac_bits.specs.Syntax.{between, number_field, read};
+ghost use Rattle.dirac_bits.specs.Answers.{ReadsSeenBy, TakesSeenBy};
 
 use crate::bit_place::BitPlace;
 use crate::numbers::{next_bit, next_block, next_literal, next_number, next_signed};
@@ -64,7 +64,7 @@ impl<'a> BitReader<'a> {
     /// One bit, where 1 is true.
     #[tactic(auto, unfolding(crate::specs::Fields::flag_at))]
     pub fn bit(&mut self) -> Result<bool, Refusal>
-        ensures value { Takes (λ b. b) result self.old self.new (flag_at self.old) }
+        ensures value { TakesSeenBy (λ b. b) result self.old self.new (flag_at self.old) }
         ensures place_inside { IfErr result (λ e. e.at ≤ length self.old.bytes) }
         ensures kept { self.new.bytes ≡ self.old.bytes }
     {
@@ -80,7 +80,7 @@ impl<'a> BitReader<'a> {
     /// An unsigned number in interleaved exp-Golomb code; a refusal names the byte of its first bit.
     #[tactic(auto, unfolding(crate::specs::Fields::uint_at))]
     pub fn uint(&mut self) -> Result<u64, Refusal>
-        ensures value { Takes (λ n. n) result self.old self.new (uint_at self.old) }
+        ensures value { TakesSeenBy (λ n. n) result self.old self.new (uint_at self.old) }
         ensures place_inside { IfErr result (λ e. e.at ≤ length self.old.bytes) }
         ensures kept { self.new.bytes ≡ self.old.bytes }
         ensures below_2_39 { IfOk result (λ n. n + 1 < 2 ^ 39) }
@@ -96,7 +96,7 @@ impl<'a> BitReader<'a> {
 
     /// An unsigned number from `least` to `most`; any other is refused with this cause, at the byte of its first bit.
     pub fn field(&mut self, cause: Cause, least: u64, most: u64) -> Result<u64, Refusal>
-        ensures value { Reads (λ n. n) result self.new (read (field cause (between least most)) self.old) }
+        ensures value { ReadsSeenBy (λ n. n) result self.new (read (number_field cause (between least most)) self.old) }
         ensures place_inside { IfErr result (λ e. e.at ≤ length self.old.bytes) }
         ensures kept { self.new.bytes ≡ self.old.bytes }
         ensures inside { IfOk result (λ n. (least ≤ n) × (n ≤ most)) }
@@ -113,7 +113,7 @@ impl<'a> BitReader<'a> {
     /// A signed number: an unsigned one and, where it isn't 0, its sign; a refusal names the byte of its first bit.
     #[tactic(auto, unfolding(crate::specs::Fields::sint_at))]
     pub fn sint(&mut self) -> Result<i64, Refusal>
-        ensures value { Takes (λ z. z) result self.old self.new (sint_at self.old) }
+        ensures value { TakesSeenBy (λ z. z) result self.old self.new (sint_at self.old) }
         ensures place_inside { IfErr result (λ e. e.at ≤ length self.old.bytes) }
         ensures kept { self.new.bytes ≡ self.old.bytes }
         ensures below_2_39 { IfOk result (λ z. unsigned_abs z + 1 < 2 ^ 39) }
@@ -131,7 +131,7 @@ impl<'a> BitReader<'a> {
     #[tactic(auto, unfolding(crate::specs::Fields::literal_at))]
     pub fn literal(&mut self) -> Result<u32, Refusal>
         requires { IsAligned self.old }
-        ensures value { Takes (λ n. n) result self.old self.new (literal_at self.old) }
+        ensures value { TakesSeenBy (λ n. n) result self.old self.new (literal_at self.old) }
         ensures place_inside { IfErr result (λ e. e.at ≤ length self.old.bytes) }
         ensures kept { self.new.bytes ≡ self.old.bytes }
         ensures aligned { IsAligned self.new }
@@ -159,10 +159,10 @@ impl<'a> BitReader<'a> {
     }
 
     /// The next `len` bytes, which aren't copied.
-    #[tactic(auto, unfolding(crate::specs::Fields::block_at))]
+    #[tactic(auto, unfolding(crate::specs::Fields::block_read_at))]
     pub fn block(&mut self, len: u64) -> Result<&'a [u8], Refusal>
         requires { IsAligned self.old }
-        ensures value { Takes (λ part. part.now) result self.old self.new (block_at len self.old) }
+        ensures value { TakesSeenBy (λ part. part.now) result self.old self.new (block_read_at len self.old) }
         ensures lent { IfOk result (λ part. part.now ≡ slice_range self.old.bytes (place self.old)
             (place self.old + len)) }
         ensures where_held { IsOk result ↔ (place self.old + len ≤ length self.old.bytes) }

@@ -8,7 +8,7 @@ use Rattle.dirac_blocks.specs.declared.parts.ListKind.{ListKind}
 use Rattle.dirac_blocks.specs.declared.parts.ListKind.TheVariants as parts
 use Rattle.dirac_block_table.specs.declared.reference.Reference.{Reference}
 use Rattle.dirac_block_table.specs.declared.reference.Reference.TheVariants as references
-use Rattle.dirac_blocks.specs.Grammar.{listed, units_step, vectors_listed, second_listed, dcs_listed, values_listed}
+use Rattle.dirac_blocks.specs.Grammar.{list_over, units_step, vectors_listed, second_listed, dcs_listed, values_listed}
 use Rattle.dirac_blocks.specs.Laws.{CarriedIsRead}
 use Rattle.dirac_block_table.specs.Tables.{BlockTable, IsBlockTable}
 use Rattle.dirac_blocks.proofs.Stages.{by}
@@ -21,7 +21,7 @@ use Rattle.dirac_block_laws.proofs.Stepping.{list_of, seconds, dcs}
 abbrev pub Leads : List ListKind → BlockTable → Cursor → BlockTable → Cursor → Type 0
 Leads [] t c u d = (t ≡ u) × (c ≡ d)
 Leads (part ∷ more) t c u d =
-    (m : BlockTable) × (e : Cursor) × (m.refs ≡ t.refs) × (read (listed (units_step part) t) c ≡ Ok (m, e)) × Leads more m e u d
+    (m : BlockTable) × (e : Cursor) × (m.refs ≡ t.refs) × (read (list_over (units_step part) t) c ≡ Ok (m, e)) × Leads more m e u d
 
 -- what lists have told behind these
 abbrev pub after : List ListKind → Known → Known
@@ -59,13 +59,13 @@ ended : (t u : BlockTable) (c d : Cursor) → Leads [] t c u d → read (done t)
 ended t u c d g = ap₂ (λ (x : BlockTable) (e : Cursor). Ok (x, e)) g.0 g.1
 
 -- the last list
-last_read : (part : ListKind) (t u : BlockTable) (c d : Cursor) → Leads (part ∷ []) t c u d → read (listed (units_step part) t) c ≡ Ok (u, d)
+last_read : (part : ListKind) (t u : BlockTable) (c d : Cursor) → Leads (part ∷ []) t c u d → read (list_over (units_step part) t) c ≡ Ok (u, d)
 last_read part t u c d g = g.3 ∙ ended g.0 u g.1 d g.4
 
 vectors_read : (k : Reference) (t u : BlockTable) (c d : Cursor) → Leads (parts.Across k ∷ parts.Down k ∷ []) t c u d → read (vectors_listed k t) c ≡ Ok (u, d)
 unfolding vectors_listed
 vectors_read k t u c d g =
-    read_then (listed (units_step (parts.Across k)) t) (λ m. listed (units_step (parts.Down k)) m) c g.1 d g.0 u g.3
+    read_then (list_over (units_step (parts.Across k)) t) (λ m. list_over (units_step (parts.Down k)) m) c g.1 d g.0 u g.3
     (last_read (parts.Down k) g.0 u g.1 d g.4)
 
 second_read : (t u : BlockTable) (c d : Cursor) → Leads (seconds (t.refs == 2)) t c u d → read (second_listed t) c ≡ Ok (u, d)
@@ -83,8 +83,8 @@ dcs_read t u c d g =
     let v = parts.Dc components.U in
     let w = parts.Dc components.V in
     let h = g.4 in
-    read_then (listed (units_step y) t) (λ m. listed (units_step v) m >>= (λ n. listed (units_step w) n)) c g.1 d g.0 u g.3
-    (read_then (listed (units_step v) g.0) (λ n. listed (units_step w) n) g.1 h.1 d h.0 u h.3 (last_read w h.0 u h.1 d h.4))
+    read_then (list_over (units_step y) t) (λ m. list_over (units_step v) m >>= (λ n. list_over (units_step w) n)) c g.1 d g.0 u g.3
+    (read_then (list_over (units_step v) g.0) (λ n. list_over (units_step w) n) g.1 h.1 d h.0 u h.3 (last_read w h.0 u h.1 d h.4))
 
 -- the lists of vectors and DC values
 abbrev pub value_lists : Bool → List ListKind

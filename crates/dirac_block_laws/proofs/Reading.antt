@@ -7,10 +7,10 @@ use Rattle.dirac_arith.specs.Deciding.{begin}
 use Rattle.dirac_arith.specs.Reading.{Reading}
 use Rattle.dirac_common.specs.Chain.{◌>>=◌ as ◌>>◌}
 use Rattle.dirac_bits.specs.Cursor.{Cursor, place, aligned}
-use Rattle.dirac_bits.specs.Fields.{flag_at, uint_at, sint_at, literal_at, block_at}
+use Rattle.dirac_bits.specs.Fields.{flag_at, uint_at, sint_at, literal_at, block_read_at}
 use Rattle.dirac_bits.specs.Syntax.{Syntax, done, flag_then, uint_then, sint_then, literal_then, block_then, align_then, here_then, refuse, read, ◌>>=◌}
 use Rattle.dirac_blocks.specs.Carried.{ReadsTo}
-use Rattle.dirac_blocks.specs.Grammar.{Step, listed, table_from}
+use Rattle.dirac_blocks.specs.Grammar.{TableStep, list_over, table_from}
 use Rattle.dirac_block_table.specs.Tables.{BlockTable}
 use Rattle.dirac_block_laws.specs.Standing.{one_block, some_blocks}
 
@@ -52,7 +52,7 @@ then_read (literal_then g) f c d x h =
     let q = then_read (g p.0.0) f p.0.1 d x p.2 in
     (q.0, q.1, ap (λ r. r >> (λ b. read (g b.0) b.1)) p.1 ∙ q.2, q.3)
 then_read (block_then len g) f c d x h =
-    let p = peel (block_at len c) (λ b. read (g b.0 >>= f) b.1) (x, d) h in
+    let p = peel (block_read_at len c) (λ b. read (g b.0 >>= f) b.1) (x, d) h in
     let q = then_read (g p.0.0) f p.0.1 d x p.2 in
     (q.0, q.1, ap (λ r. r >> (λ b. read (g b.0) b.1)) p.1 ∙ q.2, q.3)
 then_read (align_then s) f c d x h = then_read s f (aligned c) d x h
@@ -75,7 +75,7 @@ read_then (literal_then g) f c e d y x h k =
     let p = peel (literal_at c) (λ b. read (g b.0) b.1) (y, e) h in
     ap (λ r. r >> (λ b. read (g b.0 >>= f) b.1)) p.1 ∙ read_then (g p.0.0) f p.0.1 e d y x p.2 k
 read_then (block_then len g) f c e d y x h k =
-    let p = peel (block_at len c) (λ b. read (g b.0) b.1) (y, e) h in
+    let p = peel (block_read_at len c) (λ b. read (g b.0) b.1) (y, e) h in
     ap (λ r. r >> (λ b. read (g b.0 >>= f) b.1)) p.1 ∙ read_then (g p.0.0) f p.0.1 e d y x p.2 k
 read_then (align_then s) f c e d y x h k = read_then s f (aligned c) e d y x h k
 read_then (here_then g) f c e d y x h k = read_then (g (place c)) f c e d y x h k
@@ -90,33 +90,33 @@ from_table at (Ok x) c d u h =
 from_table at (Err cause) c d u h = absurd (apart (record { at = at; cause = cause }) (u, d) h)
 
 -- a list is read from the block that stands there
-pub list_read : (step : Step) (t u : BlockTable) (c d : Cursor) → read (listed step t) c ≡ Ok (u, d)
+pub list_read : (step : TableStep) (t u : BlockTable) (c d : Cursor) → read (list_over step t) c ≡ Ok (u, d)
     → (block : List ℕ) × (read one_block c ≡ Ok (block, d)) × ReadsTo step t block u
-unfolding listed
+unfolding list_over
 list_read step t u c d h =
     let table : ℕ × Cursor → List ℕ × Cursor → Result (BlockTable × Cursor) Refusal =
-    λ n bytes. read (table_from (place (aligned n.1)) (coded.read (step t) (begin bytes.0))) bytes.1 in
+    λ n bytes. read (table_from (place (aligned n.1)) (coded.read_coded (step t) (begin bytes.0))) bytes.1 in
     let bytes_only : List ℕ × Cursor → Result (List ℕ × Cursor) Refusal = λ bytes. Ok (bytes.0, bytes.1) in
-    let p = peel (uint_at c) (λ n. block_at n.0 (aligned n.1) >> table n) (u, d) h in
-    let q = peel (block_at p.0.0 (aligned p.0.1)) (table p.0) (u, d) p.2 in
-    let r = from_table (place (aligned p.0.1)) (coded.read (step t) (begin q.0.0)) q.0.1 d u q.2 in (
+    let p = peel (uint_at c) (λ n. block_read_at n.0 (aligned n.1) >> table n) (u, d) h in
+    let q = peel (block_read_at p.0.0 (aligned p.0.1)) (table p.0) (u, d) p.2 in
+    let r = from_table (place (aligned p.0.1)) (coded.read_coded (step t) (begin q.0.0)) q.0.1 d u q.2 in (
       q.0.0,
-      ap (λ n. n >> (λ n. block_at n.0 (aligned n.1) >> bytes_only)) p.1 ∙ ap (λ b. b >> bytes_only) q.1 ∙ ap (λ (e : Cursor). Ok (q.0.0, e)) r.2,
+      ap (λ n. n >> (λ n. block_read_at n.0 (aligned n.1) >> bytes_only)) p.1 ∙ ap (λ b. b >> bytes_only) q.1 ∙ ap (λ (e : Cursor). Ok (q.0.0, e)) r.2,
       (r.0, r.1),
     )
 
 -- and is read where it stands
-pub read_list : (step : Step) (t u : BlockTable) (block : List ℕ) (c d : Cursor) → read one_block c ≡ Ok (block, d) → ReadsTo step t block u
-    → read (listed step t) c ≡ Ok (u, d)
-unfolding listed
+pub read_list : (step : TableStep) (t u : BlockTable) (block : List ℕ) (c d : Cursor) → read one_block c ≡ Ok (block, d) → ReadsTo step t block u
+    → read (list_over step t) c ≡ Ok (u, d)
+unfolding list_over
 read_list step t u block c d h reads =
     let table : ℕ × Cursor → List ℕ × Cursor → Result (BlockTable × Cursor) Refusal =
-    λ n bytes. read (table_from (place (aligned n.1)) (coded.read (step t) (begin bytes.0))) bytes.1 in
+    λ n bytes. read (table_from (place (aligned n.1)) (coded.read_coded (step t) (begin bytes.0))) bytes.1 in
     let bytes_only : List ℕ × Cursor → Result (List ℕ × Cursor) Refusal = λ bytes. Ok (bytes.0, bytes.1) in
-    let p = peel (uint_at c) (λ n. block_at n.0 (aligned n.1) >> bytes_only) (block, d) h in
-    let q = peel (block_at p.0.0 (aligned p.0.1)) bytes_only (block, d) p.2 in
+    let p = peel (uint_at c) (λ n. block_read_at n.0 (aligned n.1) >> bytes_only) (block, d) h in
+    let q = peel (block_read_at p.0.0 (aligned p.0.1)) bytes_only (block, d) p.2 in
     let e = answer_same q.0 (block, d) q.2 in
-    ap (λ n. n >> (λ n. block_at n.0 (aligned n.1) >> table n)) p.1 ∙ ap (λ b. b >> table p.0) q.1 ∙ ap (λ b. table p.0 b) e
+    ap (λ n. n >> (λ n. block_read_at n.0 (aligned n.1) >> table n)) p.1 ∙ ap (λ b. b >> table p.0) q.1 ∙ ap (λ b. table p.0 b) e
     ∙ ap (λ (r : Result (BlockTable × Reading) Cause). read (table_from (place (aligned p.0.1)) r) d) reads.1
 
 -- one block more, before

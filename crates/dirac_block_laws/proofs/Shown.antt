@@ -13,7 +13,7 @@ use Rattle.dirac_common.specs.declared.formats.Component.TheVariants as componen
 use Rattle.dirac_blocks.specs.declared.parts.ListKind.{ListKind}
 use Rattle.dirac_blocks.specs.declared.parts.ListKind.TheVariants as parts
 use Rattle.dirac_block_table.specs.declared.reference.Reference.TheVariants as references
-use Rattle.dirac_blocks.specs.Carried.{with_part, ReadsTo}
+use Rattle.dirac_blocks.specs.Carried.{with_list_part, ReadsTo}
 use Rattle.dirac_blocks.specs.Grammar.{empty_table, units_step}
 use Rattle.dirac_blocks.specs.Laws.{CarriedIsRead}
 use Rattle.dirac_block_table.specs.Tables.{BlockTable, IsBlock, IsBlockTable, block_at, grey, no_vector}
@@ -38,7 +38,7 @@ told_by part f t same x y =
     ]
 
 -- what a list tells twice it tells once
-absorbs : (part : ListKind) (b c : Block) → with_part part b (with_part part b c) ≡ with_part part b c
+absorbs : (part : ListKind) (b c : Block) → with_list_part part b (with_list_part part b c) ≡ with_list_part part b c
 absorbs parts.Modes b c = refl
 absorbs (parts.Across references.First) b c = refl
 absorbs (parts.Across references.Second) b c = refl
@@ -50,7 +50,7 @@ absorbs (parts.Dc components.V) b c = refl
 
 -- a block that carries a list of the finished table leads from the table before it to the one behind it
 pub leads_on : CarriedIsRead → (part : ListKind) (t : BlockTable) (f g : Block → Block) (block : List ℕ) → IsBlockTable t → KeepsLaws t.refs f → KeepsLaws t.refs g
-    → ((b : Block) → with_part part (f b) b ≡ g b) → ((b : Block) → told part (g b) ≡ told part b) → Carries block (list_of t part)
+    → ((b : Block) → with_list_part part (f b) b ≡ g b) → ((b : Block) → told part (g b) ≡ told part b) → Carries block (list_of t part)
     → ReadsTo (units_step part) (by f t) block (by g t)
 leads_on law part t f g block inv before after is same carry =
     law part (by f t) (by g t) block (by_lawful f t inv before)
@@ -61,7 +61,7 @@ leads_on law part t f g block inv before after is same carry =
         blocks = λ i j p q.
             let b = block_at t i j in
             let at = by_at g t i j (place_inside t i j inv p q) in
-            ap₂ (λ (x y : Block). with_part part x y) (by_at f t i j (place_inside t i j inv p q)) (at ∙ sym (is b)) ∙ absorbs part (f b) b ∙ is b ∙ sym at;
+            ap₂ (λ (x y : Block). with_list_part part x y) (by_at f t i j (place_inside t i j inv p q)) (at ∙ sym (is b)) ∙ absorbs part (f b) b ∙ is b ∙ sym at;
       };
       carried = subst (λ (ds : List Decision). Carries block ds) (lists_same part t (map g t.blocks) (told_by part g t same)) carry;
     })
@@ -135,7 +135,7 @@ shown_lawful k refs b h =
       no_dc = λ e. (said_none k.dc_y b.dc_y (h.no_dc e).0, said_none k.dc_u b.dc_u (h.no_dc e).1, said_none k.dc_v b.dc_v (h.no_dc e).2);
     }
 
-pub shown_next : (part : ListKind) (k : Known) (b : Block) → with_part part (shown k b) b ≡ shown (next part k) b
+pub shown_next : (part : ListKind) (k : Known) (b : Block) → with_list_part part (shown k b) b ≡ shown (next part k) b
 shown_next parts.Modes k b = refl
 shown_next (parts.Across references.First) k b = refl
 shown_next (parts.Across references.Second) k b = refl

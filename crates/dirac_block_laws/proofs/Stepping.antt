@@ -12,7 +12,7 @@ use Rattle.dirac_block_table.specs.declared.reference.Reference.{Reference}
 use Rattle.dirac_block_table.specs.declared.reference.Reference.TheVariants as references
 use Rattle.dirac_blocks.specs.Carried.{ReadsTo}
 use Rattle.dirac_blocks.specs.Decisions.{unit_decisions}
-use Rattle.dirac_blocks.specs.Grammar.{listed, units_step, vectors_listed, second_listed, dcs_listed}
+use Rattle.dirac_blocks.specs.Grammar.{list_over, units_step, vectors_listed, second_listed, dcs_listed}
 use Rattle.dirac_blocks.specs.Laws.{ReadIsCarried}
 use Rattle.dirac_blocks.specs.Parts.{part_at}
 use Rattle.dirac_blocks.specs.Reached.{SameShape}
@@ -37,7 +37,7 @@ pub went_none : (t : BlockTable) (c : Cursor) → Went [] t c t c
 went_none t c = record { blocks = []; goes = (refl, refl) }
 
 -- one list more, before
-pub went_more : (part : ListKind) (lists : List ListKind) (t m u : BlockTable) (c e d : Cursor) → read (listed (units_step part) t) c ≡ Ok (m, e)
+pub went_more : (part : ListKind) (lists : List ListKind) (t m u : BlockTable) (c e d : Cursor) → read (list_over (units_step part) t) c ≡ Ok (m, e)
     → Went lists m e u d → Went (part ∷ lists) t c u d
 went_more part lists t m u c e d h rest =
     let one = list_read (units_step part) t m c e h in
@@ -56,7 +56,7 @@ went_on ps qs t m u c e d g h = record { blocks = g.blocks ++ h.blocks; goes = g
 pub vectors_went : (k : Reference) (t u : BlockTable) (c d : Cursor) → read (vectors_listed k t) c ≡ Ok (u, d) → Went (parts.Across k ∷ parts.Down k ∷ []) t c u d
 unfolding vectors_listed
 vectors_went k t u c d h =
-    let p = then_read (listed (units_step (parts.Across k)) t) (λ m. listed (units_step (parts.Down k)) m) c d u h in
+    let p = then_read (list_over (units_step (parts.Across k)) t) (λ m. list_over (units_step (parts.Down k)) m) c d u h in
     went_more (parts.Across k) (parts.Down k ∷ []) t p.0 u c p.1 d p.2 (went_more (parts.Down k) [] p.0 u u p.1 d d p.3 (went_none u d))
 
 -- the lists of the second reference, where there is one
@@ -82,8 +82,8 @@ dcs_went t u c d h =
     let y = parts.Dc components.Y in
     let v = parts.Dc components.U in
     let w = parts.Dc components.V in
-    let p = then_read (listed (units_step y) t) (λ m. listed (units_step v) m >>= (λ n. listed (units_step w) n)) c d u h in
-    let q = then_read (listed (units_step v) p.0) (λ n. listed (units_step w) n) p.1 d u p.3 in
+    let p = then_read (list_over (units_step y) t) (λ m. list_over (units_step v) m >>= (λ n. list_over (units_step w) n)) c d u h in
+    let q = then_read (list_over (units_step v) p.0) (λ n. list_over (units_step w) n) p.1 d u p.3 in
     went_more y (v ∷ w ∷ []) t p.0 u c p.1 d p.2 (went_more v (w ∷ []) p.0 q.0 u p.1 q.1 d q.2 (went_more w [] q.0 u u q.1 d d q.3 (went_none u d)))
 
 -- these lists change nothing that the first one told

@@ -12,7 +12,7 @@ use Rattle.dirac_common.specs.declared.formats.Component.TheVariants as componen
 use Rattle.dirac_blocks.specs.declared.parts.ListKind.{ListKind}
 use Rattle.dirac_blocks.specs.declared.parts.ListKind.TheVariants as parts
 use Rattle.dirac_block_table.specs.declared.reference.Reference.TheVariants as references
-use Rattle.dirac_blocks.specs.Carried.{with_part, IsWithPart}
+use Rattle.dirac_blocks.specs.Carried.{with_list_part, IsWithPart}
 use Rattle.dirac_blocks.specs.Decisions.{UnitPart, predicted, counted, differ, less_prediction, ref1_at, ref2_at, superblock_part, superblock_row, superblock_rows, unit_decisions}
 use Rattle.dirac_blocks.specs.Grammar.{block_using, is_dc}
 use Rattle.dirac_blocks.specs.Parts.{vector_at, dc_at, part_at}
@@ -23,7 +23,7 @@ use Rattle.dirac_blocks.proofs.Filled.{same_table, place_row}
 
 -- what the modes and one list tell of a block
 abbrev pub told : ListKind → Block → Block
-told part b = with_part part (block_using b.ref1 b.ref2) b
+told part b = with_list_part part (block_using b.ref1 b.ref2) b
 
 pub places_same : {A : Type 0} (f g : ℕ → ℕ → A) → ((x y : ℕ) → f x y ≡ g x y) → f ≡ g
 places_same f g same = λ i x y. same x y i
@@ -82,7 +82,7 @@ abbrev pub with_blocks : BlockTable → List Block → BlockTable
 with_blocks t blocks = record t { blocks = blocks }
 
 -- what a list doesn't tell of a block outside
-nothing_told : (part : ListKind) → with_part part grey grey ≡ grey
+nothing_told : (part : ListKind) → with_list_part part grey grey ≡ grey
 nothing_told parts.Modes = refl
 nothing_told (parts.Across references.First) = refl
 nothing_told (parts.Across references.Second) = refl
@@ -94,23 +94,23 @@ nothing_told (parts.Dc components.V) = refl
 
 -- tables that differ in one list are so everywhere, outside too
 everywhere : (part : ListKind) (t : BlockTable) (ys : List Block) → length t.blocks ≡ 4 * t.down * (4 * t.across) → length ys ≡ length t.blocks
-    → ((x y : ℕ) → x < 4 * t.across → y < 4 * t.down → with_part part (block_at t x y) (block_at (with_blocks t ys) x y) ≡ block_at (with_blocks t ys) x y)
-    → (k : ℕ) → with_part part (get_or t.blocks k grey) (get_or ys k grey) ≡ get_or ys k grey
+    → ((x y : ℕ) → x < 4 * t.across → y < 4 * t.down → with_list_part part (block_at t x y) (block_at (with_blocks t ys) x y) ≡ block_at (with_blocks t ys) x y)
+    → (k : ℕ) → with_list_part part (get_or t.blocks k grey) (get_or ys k grey) ≡ get_or ys k grey
 everywhere part t ys len len' inside k =
     elim (cases_lt k (4 * t.down * (4 * t.across))) [
       | inl l ↦
           let place = place_row (4 * t.across) (4 * t.down) k l in
-          subst (λ (n : ℕ). with_part part (get_or t.blocks n grey) (get_or ys n grey) ≡ get_or ys n grey) place.3
+          subst (λ (n : ℕ). with_list_part part (get_or t.blocks n grey) (get_or ys n grey) ≡ get_or ys n grey) place.3
           (inside (k % (4 * t.across)) (k / (4 * t.across)) place.2 place.1)
       | inr l ↦
           let out = get_or_past t.blocks k grey (omega arith) in
           let out' = get_or_past ys k grey (omega arith) in
-          ap₂ (λ (a b : Block). with_part part a b) out out' ∙ nothing_told part ∙ sym out'
+          ap₂ (λ (a b : Block). with_list_part part a b) out out' ∙ nothing_told part ∙ sym out'
     ]
 
 -- what a list tells doesn't change what the first one told
 abbrev pub Keeps : ListKind → ListKind → Type 0
-Keeps first part = (b c : Block) → told first (with_part part b c) ≡ told first b
+Keeps first part = (b c : Block) → told first (with_list_part part b c) ≡ told first b
 
 -- lists read no blocks but by their parts
 row_there : (p : UnitPart) (t : BlockTable) (ys : List Block) (sy n : ℕ) → superblock_row p t sy n ≡ superblock_row p (with_blocks t ys) sy n
@@ -131,7 +131,7 @@ lists_same part t ys same =
 
 -- a later list leaves a list's decisions as they are
 kept_there : (first part : ListKind) (t : BlockTable) (ys : List Block) → length t.blocks ≡ 4 * t.down * (4 * t.across) → length ys ≡ length t.blocks
-    → ((x y : ℕ) → x < 4 * t.across → y < 4 * t.down → with_part part (block_at t x y) (block_at (with_blocks t ys) x y) ≡ block_at (with_blocks t ys) x y)
+    → ((x y : ℕ) → x < 4 * t.across → y < 4 * t.down → with_list_part part (block_at t x y) (block_at (with_blocks t ys) x y) ≡ block_at (with_blocks t ys) x y)
     → Keeps first part → unit_decisions t (part_at first t) ≡ unit_decisions (with_blocks t ys) (part_at first (with_blocks t ys))
 kept_there first part t ys len len' inside keeps =
     let every = everywhere part t ys len len' inside in
@@ -149,7 +149,7 @@ pub kept_decisions : (first part : ListKind) (t u : BlockTable) → IsBlockTable
     → unit_decisions t (part_at first t) ≡ unit_decisions u (part_at first u)
 kept_decisions first part t u inv inv' rest keeps =
     let same = shaped t u rest.shape in
-    let Differ : BlockTable → Type 0 = λ v. (x y : ℕ) → x < 4 * t.across → y < 4 * t.down → with_part part (block_at t x y) (block_at v x y) ≡ block_at v x y in
+    let Differ : BlockTable → Type 0 = λ v. (x y : ℕ) → x < 4 * t.across → y < 4 * t.down → with_list_part part (block_at t x y) (block_at v x y) ≡ block_at v x y in
     let lens : length u.blocks ≡ length t.blocks =
     inv'.blocks_len ∙ ap₂ (λ (a b : ℕ). 4 * b * (4 * a)) rest.shape.across rest.shape.down ∙ sym inv.blocks_len in
     kept_there first part t u.blocks inv.blocks_len lens (subst Differ (sym same) rest.blocks) keeps

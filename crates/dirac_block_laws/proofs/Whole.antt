@@ -10,12 +10,12 @@ use Rattle.dirac_blocks.specs.declared.parts.ListKind.{ListKind}
 use Rattle.dirac_blocks.specs.declared.parts.ListKind.TheVariants as parts
 use Rattle.dirac_block_table.specs.declared.reference.Reference.TheVariants as references
 use Rattle.dirac_blocks.specs.Decisions.{Numbers, AreSplitNumbers, split_rows, block_decisions}
-use Rattle.dirac_blocks.specs.Grammar.{empty_table, listed, splits_step, units_step, vectors_listed, second_listed, dcs_listed, values_listed, lists_of, blocks}
+use Rattle.dirac_blocks.specs.Grammar.{empty_table, list_over, splits_step, units_step, vectors_listed, second_listed, dcs_listed, values_listed, lists_of, blocks}
 use Rattle.dirac_blocks.specs.Laws as lists
 use Rattle.dirac_blocks.specs.Reached.{SameShape}
 use Rattle.dirac_block_table.specs.Tables.{BlockTable, IsBlockTable}
 use Rattle.dirac_blocks.proofs.Spelled.{empty_lawful}
-use Rattle.dirac_block_laws.specs.Laws.{ReadIsCarried}
+use Rattle.dirac_block_laws.specs.Laws.{ReadTableIsCarried}
 use Rattle.dirac_block_laws.specs.Standing.{some_blocks, EachCarries}
 use Rattle.dirac_block_laws.proofs.Empty.{empty_grey}
 use Rattle.dirac_block_laws.proofs.Reading.{then_read, list_read, one_more}
@@ -64,11 +64,11 @@ decisions_are t numbers =
 
 -- the lists behind the splits lead to the finished table
 lists_went : lists.ReadIsCarried → (m t : BlockTable) (e d : Cursor) → IsBlockTable m
-    → read (listed (units_step parts.Modes) m >>= (λ n. values_listed n)) e ≡ Ok (t, d) → Went (lists_behind (m.refs == 2)) m e t d
+    → read (list_over (units_step parts.Modes) m >>= (λ n. values_listed n)) e ≡ Ok (t, d) → Went (lists_behind (m.refs == 2)) m e t d
 unfolding values_listed
 lists_went law m t e d inv h =
     let first = parts.Across references.First ∷ parts.Down references.First ∷ [] in
-    let p = then_read (listed (units_step parts.Modes) m) (λ n. values_listed n) e d t h in
+    let p = then_read (list_over (units_step parts.Modes) m) (λ n. values_listed n) e d t h in
     let q = then_read (vectors_listed references.First p.0) (λ n. second_listed n >>= (λ o. dcs_listed o)) p.1 d t p.3 in
     let r = then_read (second_listed q.0) (λ o. dcs_listed o) q.1 d t q.3 in
     let front : Went (parts.Modes ∷ first) m e q.0 q.1 = went_more parts.Modes first m p.0 q.0 e p.1 q.1 p.2 (vectors_went references.First p.0 q.0 p.1 q.1 q.2) in
@@ -97,12 +97,12 @@ pub as_many : (n m : ℕ) (a d : Cursor) (blocks : List (List ℕ)) → n ≡ m 
 as_many n m a d blocks e h = subst (λ (k : ℕ). read (some_blocks k) a ≡ Ok (blocks, d)) e h
 
 -- a whole table that is read is carried
-pub whole_is_carried : lists.ReadIsCarried → lists.ReadSplitsAreCarried → ReadIsCarried
+pub whole_is_carried : lists.ReadIsCarried → lists.ReadSplitsAreCarried → ReadTableIsCarried
 unfolding blocks lists_of
 whole_is_carried units splits across down refs c d t size h =
     let t0 = empty_table across down refs in
     let a = aligned c in
-    let p = then_read (listed splits_step t0) (λ m. listed (units_step parts.Modes) m >>= (λ n. values_listed n)) a d t h in
+    let p = then_read (list_over splits_step t0) (λ m. list_over (units_step parts.Modes) m >>= (λ n. values_listed n)) a d t h in
     let m = p.0 in
     let e = p.1 in
     let s = list_read splits_step t0 m a e p.2 in

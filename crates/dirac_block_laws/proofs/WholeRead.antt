@@ -11,13 +11,13 @@ use Rattle.dirac_block_table.specs.declared.block.Block.{Block}
 use Rattle.dirac_blocks.specs.declared.parts.ListKind.TheVariants as parts
 use Rattle.dirac_blocks.specs.Carried.{ReadsTo}
 use Rattle.dirac_blocks.specs.Decisions.{Numbers, AreSplitNumbers, split_rows, block_decisions}
-use Rattle.dirac_blocks.specs.Grammar.{empty_table, listed, splits_step, units_step, values_listed, lists_of, blocks}
+use Rattle.dirac_blocks.specs.Grammar.{empty_table, list_over, splits_step, units_step, values_listed, lists_of, blocks}
 use Rattle.dirac_blocks.specs.Laws as lists
 use Rattle.dirac_block_table.specs.Tables.{BlockTable, IsBlockTable, no_vector}
 use Rattle.dirac_blocks.proofs.Stages.{by, by_lawful}
 use Rattle.dirac_blocks.proofs.Spelled.{empty_lawful, nothing_yet, by_end}
 use Rattle.dirac_blocks.proofs.Nearby.{grey_lawful}
-use Rattle.dirac_block_laws.specs.Laws.{CarriedIsRead, OneIsCarried}
+use Rattle.dirac_block_laws.specs.Laws.{CarriedTableIsRead, OneIsCarried}
 use Rattle.dirac_block_laws.specs.Standing.{some_blocks, EachCarries}
 use Rattle.dirac_block_laws.proofs.Leading.{Leads, after, leads_from, value_lists, values_read}
 use Rattle.dirac_block_laws.proofs.Reading.{answer_same, read_then, read_list, first_stands}
@@ -74,10 +74,10 @@ lists_read units splits t numbers (b ∷ (m ∷ bs)) a d inv are small stand car
     let second = read_list (units_step parts.Modes) u v m one.0 two.0 two.1 modes in
     let leads = leads_from units (value_lists (t.refs == 2)) no_values t two.0 d bs inv two.2 carry.1.1 in
     let third = values_read v t two.0 d (subst (λ (w : BlockTable). Leads (value_lists (t.refs == 2)) v two.0 w d) (finished t inv) leads) in
-    read_then (listed splits_step t0) (λ w. listed (units_step parts.Modes) w >>= (λ n. values_listed n)) a one.0 d u t first
-    (read_then (listed (units_step parts.Modes) u) (λ n. values_listed n) one.0 two.0 d v t second third)
+    read_then (list_over splits_step t0) (λ w. list_over (units_step parts.Modes) w >>= (λ n. values_listed n)) a one.0 d u t first
+    (read_then (list_over (units_step parts.Modes) u) (λ n. values_listed n) one.0 two.0 d v t second third)
 
-pub whole_is_read : lists.CarriedIsRead → lists.CarriedSplitsAreRead → CarriedIsRead
+pub whole_is_read : lists.CarriedIsRead → lists.CarriedSplitsAreRead → CarriedTableIsRead
 unfolding blocks
 whole_is_read units splits t c d s =
     let is = sym (decisions_are t s.numbers) in
@@ -87,7 +87,7 @@ whole_is_read units splits t c d s =
     (subst (λ (ls : List (List Decision)). EachCarries s.blocks ls) is s.carry)
 
 -- a table that is read is the only one
-pub one_is_carried : CarriedIsRead → OneIsCarried
+pub one_is_carried : CarriedTableIsRead → OneIsCarried
 one_is_carried law t u c d e s r across down refs =
     let sizes : read (blocks t.across t.down t.refs) c ≡ read (blocks u.across u.down u.refs) c =
     ap (λ (n : ℕ). read (blocks n t.down t.refs) c) across ∙ ap (λ (n : ℕ). read (blocks u.across n t.refs) c) down ∙ ap (λ (n : ℕ). read (blocks u.across u.down n) c) refs in

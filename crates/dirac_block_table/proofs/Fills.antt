@@ -7,8 +7,8 @@ use Rattle.std.proofs.lemmas.Nat.{mul-le}
 use native.Mathlib.Numerals.{unary_clauses}
 use Rattle.dirac_block_table.specs.declared.block.Block.{Block}
 use Rattle.dirac_block_table.specs.Filling.{row_filled, rows_filled, with_split, with_unit}
-use Rattle.dirac_block_table.specs.Filling.{AllGrey, IsUnit}
-use Rattle.dirac_block_table.specs.Tables.{BlockTable, IsBlock, IsBlockTable, grey, split_at, block_at, block_in, unit_size, first_of}
+use Rattle.dirac_block_table.specs.Filling.{AllGrey, IsFirstOfUnit}
+use Rattle.dirac_block_table.specs.Tables.{BlockTable, IsBlock, IsBlockTable, grey, split_at, block_at, block_in, unit_size, first_in_unit}
 use Rattle.dirac_block_table.proofs.Putting.{IsOutside, row_outside, split_inside}
 use Rattle.dirac_block_table.proofs.Units.{of_splits, first_below, first_alike}
 
@@ -118,7 +118,7 @@ pub record IsPlaced (t : BlockTable) (size i j : ℕ) : Type 0 where
 pub split_few : (t : BlockTable) (sx sy : ℕ) → IsBlockTable t → sx < t.across → sy < t.down → split_at t sx sy ≤ 2
 split_few t sx sy inv hx hy = inv.splits (sy * t.across + sx) 0 (split_inside t sx sy inv hx hy)
 
-pub unit_placed : (t : BlockTable) (size i j : ℕ) → IsBlockTable t → IsUnit t size i j → IsPlaced t size i j
+pub unit_placed : (t : BlockTable) (size i j : ℕ) → IsBlockTable t → IsFirstOfUnit t size i j → IsPlaced t size i j
 unit_placed t size i j inv k =
     let s = split_at t k.sx k.sy in
     let two : s ≤ 2 = split_few t k.sx k.sy inv k.across k.down in
@@ -137,7 +137,7 @@ unit_placed t size i j inv k =
     }
 
 -- the blocks of the unit are filled
-pub filled_inside : (t : BlockTable) (size i j : ℕ) (b : Block) → IsBlockTable t → IsUnit t size i j
+pub filled_inside : (t : BlockTable) (size i j : ℕ) (b : Block) → IsBlockTable t → IsFirstOfUnit t size i j
     → (x y : ℕ) → i ≤ x → x < i + size → j ≤ y → y < j + size → block_at (with_unit t size i j b) x y ≡ b
 filled_inside t size i j b inv k x y left right top bottom =
     let placed = unit_placed t size i j inv k in
@@ -149,7 +149,7 @@ filled_inside t size i j b inv k x y left right top bottom =
     ap (λ (n : ℕ). block_at new n y) (sym px) ∙ ap (λ (n : ℕ). block_at new (i + (x - i)) n) (sym qy) ∙ here
 
 -- and all others stay
-pub filled_outside : (t : BlockTable) (size i j : ℕ) (b : Block) → IsBlockTable t → IsUnit t size i j
+pub filled_outside : (t : BlockTable) (size i j : ℕ) (b : Block) → IsBlockTable t → IsFirstOfUnit t size i j
     → (x y : ℕ) → x < 4 * t.across → IsOutside i (i + size) j (j + size) x y → block_at (with_unit t size i j b) x y ≡ block_at t x y
 filled_outside t size i j b inv k =
     let placed = unit_placed t size i j inv k in
@@ -169,7 +169,7 @@ unit_aside split size base first p u h is at not =
     ]
 
 -- a block of the superblock is b where its column and row are the unit's, and stays where one isn't
-unit_inside : (t : BlockTable) (size i j : ℕ) (b : Block) → IsBlockTable t → (k : IsUnit t size i j)
+unit_inside : (t : BlockTable) (size i j : ℕ) (b : Block) → IsBlockTable t → (k : IsFirstOfUnit t size i j)
     → (p q : ℕ) → p / size ≡ k.u → q / size ≡ k.v → block_in (with_unit t size i j b) k.sx k.sy p q ≡ b
 unit_inside t size i j b inv k p q hp hq =
     let two = split_few t k.sx k.sy inv k.across k.down in
@@ -179,7 +179,7 @@ unit_inside t size i j b inv k p q hp hq =
     let row = k.row in
     filled_inside t size i j b inv k (4 * k.sx + p) (4 * k.sy + q) (omega (arith, x.0)) (omega (arith, x.1)) (omega (arith, y.0)) (omega (arith, y.1))
 
-unit_outside : (t : BlockTable) (size i j : ℕ) (b : Block) → IsBlockTable t → (k : IsUnit t size i j)
+unit_outside : (t : BlockTable) (size i j : ℕ) (b : Block) → IsBlockTable t → (k : IsFirstOfUnit t size i j)
     → (p q : ℕ) → p < 4 → (p / size ≡ k.u → ⊥) ⊎ (q / size ≡ k.v → ⊥) → block_in (with_unit t size i j b) k.sx k.sy p q ≡ block_in t k.sx k.sy p q
 unit_outside t size i j b inv k p q small o =
     let s = split_at t k.sx k.sy in
@@ -192,7 +192,7 @@ unit_outside t size i j b inv k p q small o =
     ])
 
 -- the blocks of all other superblocks stay
-unit_elsewhere : (t : BlockTable) (size i j : ℕ) (b : Block) → IsBlockTable t → (k : IsUnit t size i j)
+unit_elsewhere : (t : BlockTable) (size i j : ℕ) (b : Block) → IsBlockTable t → (k : IsFirstOfUnit t size i j)
     → (x y p q : ℕ) → x < t.across → y < t.down → p < 4 → q < 4 → (x ≡ k.sx → y ≡ k.sy → ⊥) → block_in (with_unit t size i j b) x y p q ≡ block_in t x y p q
 unit_elsewhere t size i j b inv k x y p q hx hy hp hq not =
     let s = split_at t k.sx k.sy in
@@ -217,14 +217,14 @@ unit_elsewhere t size i j b inv k x y p q hx hy hp hq not =
     ])
 
 -- all blocks of each unit of the superblock are equal
-unit_equal : (t : BlockTable) (size i j : ℕ) (b : Block) → IsBlockTable t → (k : IsUnit t size i j) → (p q : ℕ) → p < 4 → q < 4
-    → block_in (with_unit t size i j b) k.sx k.sy p q ≡ block_in (with_unit t size i j b) k.sx k.sy (first_of (split_at t k.sx k.sy) p) (first_of (split_at t k.sx k.sy) q)
+unit_equal : (t : BlockTable) (size i j : ℕ) (b : Block) → IsBlockTable t → (k : IsFirstOfUnit t size i j) → (p q : ℕ) → p < 4 → q < 4
+    → block_in (with_unit t size i j b) k.sx k.sy p q ≡ block_in (with_unit t size i j b) k.sx k.sy (first_in_unit (split_at t k.sx k.sy) p) (first_in_unit (split_at t k.sx k.sy) q)
 unit_equal t size i j b inv k p q hp hq =
     let s = split_at t k.sx k.sy in
     let two : s ≤ 2 = split_few t k.sx k.sy inv k.across k.down in
     let is = k.is in
-    let p' = first_of s p in
-    let q' = first_of s q in
+    let p' = first_in_unit s p in
+    let q' = first_in_unit s q in
     let p_small : p' < 4 = first_below s p two hp in
     let p_alike : p' / size ≡ p / size = subst (λ (n : ℕ). p' / n ≡ p / n) (sym is) (first_alike s p two hp) in
     let q_alike : q' / size ≡ q / size = subst (λ (n : ℕ). q' / n ≡ q / n) (sym is) (first_alike s q two hq) in
@@ -238,7 +238,7 @@ unit_equal t size i j b inv k p q hp hq =
       | inr nu ↦ unit_outside t size i j b inv k p q hp (inl nu) ∙ old ∙ sym (unit_outside t size i j b inv k p' q' p_small (inl (λ e. nu (sym p_alike ∙ e))))
     ]
 
-pub unit_lawful : (t : BlockTable) (size i j : ℕ) (b : Block) → IsBlockTable t → IsUnit t size i j → IsBlock t.refs b → IsBlockTable (with_unit t size i j b)
+pub unit_lawful : (t : BlockTable) (size i j : ℕ) (b : Block) → IsBlockTable t → IsFirstOfUnit t size i j → IsBlock t.refs b → IsBlockTable (with_unit t size i j b)
 unit_lawful t size i j b inv k lawful =
     let placed = unit_placed t size i j inv k in
     let f = rows_are_filled (4 * t.across) t.blocks size i j b size placed.columns placed.rows in
@@ -252,7 +252,7 @@ unit_lawful t size i j b inv k lawful =
           let few = split_few t x y inv hx hy in
           let there = λ (not : x ≡ k.sx → y ≡ k.sy → ⊥).
           unit_elsewhere t size i j b inv k x y p q hx hy hp hq not ∙ inv.units x y p q hx hy hp hq
-          ∙ sym (unit_elsewhere t size i j b inv k x y (first_of (split_at t x y) p) (first_of (split_at t x y) q) hx hy (first_below (split_at t x y) p few hp) (first_below (split_at t x y) q few hq) not) in
+          ∙ sym (unit_elsewhere t size i j b inv k x y (first_in_unit (split_at t x y) p) (first_in_unit (split_at t x y) q) hx hy (first_below (split_at t x y) p few hp) (first_below (split_at t x y) q few hq) not) in
           elim (cases_eq x k.sx) [
             | inl e ↦ elim (cases_eq y k.sy) [
               | inl e' ↦ rw (e, e') (unit_equal t size i j b inv k p q hp hq)

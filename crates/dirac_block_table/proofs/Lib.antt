@@ -1,3 +1,4 @@
+mod Beside
 pub mod Fills
 pub mod Putting
 pub mod Units

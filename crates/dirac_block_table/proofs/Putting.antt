@@ -6,7 +6,7 @@ use Rattle.std.proofs.lemmas.Nat.{same_from_place, mul-le, mul-add-lt}
 use Rattle.std.proofs.lemmas.List.Elements.{All-from_get_or, All-set}
 use Rattle.dirac_block_table.specs.declared.block.Block.{Block}
 use Rattle.dirac_block_table.specs.Puts.{RowPut, RowsPut, IsPut}
-use Rattle.dirac_block_table.specs.Tables.{BlockTable, IsBlock, IsBlockTable, grey, split_at, block_in, unit_size, unit_of, first_of}
+use Rattle.dirac_block_table.specs.Tables.{BlockTable, IsBlock, IsBlockTable, grey, split_at, block_in, unit_size, unit_of, first_in_unit}
 use Rattle.dirac_block_table.proofs.Units.{column_fits, first_below, first_alike}
 
 -- blocks stay blocks of so many references
@@ -120,22 +120,22 @@ put_is t sx sy split units new inv h l s =
 
 -- the blocks of the superblock that is put are equal in each unit
 units_here : (t new : BlockTable) (sx sy split : ℕ) (units : List Block) → split ≤ 2 → IsPut t sx sy split units new
-    → (i j : ℕ) → i < 4 → j < 4 → block_in new sx sy i j ≡ block_in new sx sy (first_of (split_at new sx sy) i) (first_of (split_at new sx sy) j)
+    → (i j : ℕ) → i < 4 → j < 4 → block_in new sx sy i j ≡ block_in new sx sy (first_in_unit (split_at new sx sy) i) (first_in_unit (split_at new sx sy) j)
 units_here t new sx sy split units h k i j p q =
-    let alike : unit_of split (first_of split i) (first_of split j) ≡ unit_of split i j = ap₂ (λ a b. b * 2 ^ split + a) (first_alike split i h p) (first_alike split j h q) in
-    let first : block_in new sx sy (first_of split i) (first_of split j) ≡ get_or units (unit_of split (first_of split i) (first_of split j)) grey =
-    k.blocks (first_of split i) (first_of split j) (first_below split i h p) (first_below split j h q) in
+    let alike : unit_of split (first_in_unit split i) (first_in_unit split j) ≡ unit_of split i j = ap₂ (λ a b. b * 2 ^ split + a) (first_alike split i h p) (first_alike split j h q) in
+    let first : block_in new sx sy (first_in_unit split i) (first_in_unit split j) ≡ get_or units (unit_of split (first_in_unit split i) (first_in_unit split j)) grey =
+    k.blocks (first_in_unit split i) (first_in_unit split j) (first_below split i h p) (first_below split j h q) in
     rw k.chosen (k.blocks i j p q ∙ ap (λ n. get_or units n grey) (sym alike) ∙ sym first)
 
 -- and so are those of all others
 units_there : (t new : BlockTable) (sx sy split : ℕ) (units : List Block) → IsBlockTable t → IsPut t sx sy split units new
     → (x y : ℕ) → x < t.across → y < t.down → (x ≡ sx → y ≡ sy → ⊥)
-    → (i j : ℕ) → i < 4 → j < 4 → block_in new x y i j ≡ block_in new x y (first_of (split_at new x y) i) (first_of (split_at new x y) j)
+    → (i j : ℕ) → i < 4 → j < 4 → block_in new x y i j ≡ block_in new x y (first_in_unit (split_at new x y) i) (first_in_unit (split_at new x y) j)
 units_there t new sx sy split units inv k x y hx hy not i j p q =
     let s = split_at t x y in
     let few : s ≤ 2 = inv.splits (y * t.across + x) 0 (split_inside t x y inv hx hy) in
-    let first : block_in new x y (first_of s i) (first_of s j) ≡ block_in t x y (first_of s i) (first_of s j) =
-    k.other_blocks x y (first_of s i) (first_of s j) hx hy (first_below s i few p) (first_below s j few q) not in
+    let first : block_in new x y (first_in_unit s i) (first_in_unit s j) ≡ block_in t x y (first_in_unit s i) (first_in_unit s j) =
+    k.other_blocks x y (first_in_unit s i) (first_in_unit s j) hx hy (first_below s i few p) (first_below s j few q) not in
     rw (k.other_splits x y hx hy not) (k.other_blocks x y i j hx hy p q not ∙ inv.units x y i j hx hy p q ∙ sym first)
 
 pub put_lawful : (t : BlockTable) (sx sy split : ℕ) (units new : List Block) → IsBlockTable t → sx < t.across → sy < t.down → split ≤ 2

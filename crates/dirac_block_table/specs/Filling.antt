@@ -38,7 +38,7 @@ abbrev pub AllGrey : List Block → Type 0
 AllGrey blocks = (k : ℕ) → slice_index_or blocks k grey ≡ grey
 
 -- block i of row j is the first one of a unit of this size
-pub record IsUnit (t : BlockTable) (size i j : ℕ) : Type 0 where
+pub record IsFirstOfUnit (t : BlockTable) (size i j : ℕ) : Type 0 where
   pub sx : ℕ
   pub sy : ℕ
   pub u : ℕ

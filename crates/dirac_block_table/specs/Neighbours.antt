@@ -1,5 +1,5 @@
 -- What the neighbours of a place of a block table have, and what is predicted from them.
-use Rattle.std.specs.Prelude.{ℕ, ℤ, ◌-◌, ◌==◌, Bool, true, false, not, ◌||◌, if◌then◌else◌, Option, Some, None}
+use Rattle.std.specs.Prelude.{ℕ, ℤ, ◌-◌, ◌==◌, nat_lt, Bool, true, false, not, ◌||◌, if◌then◌else◌, Option, Some, None}
 use Rattle.dirac_common.specs.declared.formats.Component.{Component}
 use Rattle.dirac_common.specs.declared.formats.Component.TheVariants as component
 use Rattle.dirac_common.specs.declared.formats.Vector.{Vector}
@@ -19,6 +19,10 @@ above_of at i j = if j == 0 then None else at i (j - 1)
 -- what stands above and left
 abbrev pub corner_of : {A : Type 0} → (ℕ → ℕ → Option A) → ℕ → ℕ → Option A
 corner_of at i j = if i == 0 then None else (if j == 0 then None else at (i - 1) (j - 1))
+
+-- what stands so many places left of a place and above it
+abbrev pub near_at : {A : Type 0} → (ℕ → ℕ → Option A) → ℕ → ℕ → ℕ → ℕ → Option A
+near_at at i j left up = if nat_lt i left then None else (if nat_lt j up then None else at (i - left) (j - up))
 
 -- what a prediction makes of the neighbours of a place
 abbrev pub predicted : {A B : Type 0} → (Option A → Option A → Option A → B) → (ℕ → ℕ → Option A) → ℕ → ℕ → B

@@ -41,8 +41,8 @@ abbrev pub unit_size : ℕ → ℕ
 unit_size split = 4 / 2 ^ split
 
 -- the first of a unit's columns or rows, from one of them, both counted in the superblock
-abbrev pub first_of : ℕ → ℕ → ℕ
-first_of split i = i / unit_size split * unit_size split
+abbrev pub first_in_unit : ℕ → ℕ → ℕ
+first_in_unit split i = i / unit_size split * unit_size split
 
 -- the number of a block's unit in its superblock, units by rows
 abbrev pub unit_of : ℕ → ℕ → ℕ → ℕ
@@ -61,7 +61,7 @@ pub record IsBlock (refs : ℕ) (b : Block) : Type 0 where
   pub no_dc : (b.ref1 || b.ref2) ≡ true → (b.dc_y ≡ pos 0) × (b.dc_u ≡ pos 0) × (b.dc_v ≡ pos 0)
 
 -- the sizes of a block table, in superblocks, and its number of references
-pub record IsSize (across down refs : ℕ) : Type 0 where
+pub record IsTableSize (across down refs : ℕ) : Type 0 where
   pub some_across : 1 ≤ across
   pub most_across : across ≤ MOST_SUPERBLOCKS
   pub some_down : 1 ≤ down
@@ -71,10 +71,11 @@ pub record IsSize (across down refs : ℕ) : Type 0 where
 
 -- what every block table keeps
 pub record IsBlockTable (t : BlockTable) : Type 0 where
-  pub size : IsSize t.across t.down t.refs
+  pub size : IsTableSize t.across t.down t.refs
   pub splits_len : length t.splits ≡ t.down * t.across
   pub blocks_len : length t.blocks ≡ 4 * t.down * (4 * t.across)
   pub splits : All (λ s. s ≤ 2) t.splits
   pub blocks : All (IsBlock t.refs) t.blocks
   pub units : (sx sy i j : ℕ) → sx < t.across → sy < t.down → i < 4 → j < 4
-      → block_in t sx sy i j ≡ block_in t sx sy (first_of (split_at t sx sy) i) (first_of (split_at t sx sy) j)
+      → block_in t sx sy i j
+      ≡ block_in t sx sy (first_in_unit (split_at t sx sy) i) (first_in_unit (split_at t sx sy) j)

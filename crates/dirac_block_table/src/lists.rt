@@ -62,9 +62,10 @@ impl Splits {
     pub fn try_copy(&self, alloc: Global) -> Result<Splits, NoMemory>
         ensures { IfOk result (λ s. s ≡ self.now) }
     {
-        Ok(Splits {
-            list: Vec::from_slice(alloc, self.list.as_slice())?,
-        })
+        match Vec::from_slice(alloc, self.list.as_slice()) {
+            Ok(list) => Ok(Splits { list }),
+            Err(_) => Err(NoMemory),
+        }
     }
 }
 
@@ -125,9 +126,10 @@ impl Blocks {
     pub fn try_copy(&self, alloc: Global) -> Result<Blocks, NoMemory>
         ensures { IfOk result (λ b. b ≡ self.now) }
     {
-        Ok(Blocks {
-            list: Vec::from_slice(alloc, self.list.as_slice())?,
-        })
+        match Vec::from_slice(alloc, self.list.as_slice()) {
+            Ok(list) => Ok(Blocks { list }),
+            Err(_) => Err(NoMemory),
+        }
     }
 }
 
@@ -135,12 +137,18 @@ impl Blocks {
 pub fn new_splits(alloc: Global, count: usize) -> Result<Splits, NoMemory>
     ensures { IfOk result (λ s. s ≡ replicate count 0) }
 {
-    Ok(Splits::new(vec![in alloc; 0; count]?))
+    match vec![in alloc; 0u8; count] {
+        Ok(list) => Ok(Splits { list }),
+        Err(_) => Err(NoMemory),
+    }
 }
 
 /// So many equal blocks.
 pub fn new_blocks(alloc: Global, block: Block, count: usize) -> Result<Blocks, NoMemory>
     ensures { IfOk result (λ b. b ≡ replicate count block) }
 {
-    Ok(Blocks::new(vec![in alloc; block; count]?))
+    match vec![in alloc; block; count] {
+        Ok(list) => Ok(Blocks { list }),
+        Err(_) => Err(NoMemory),
+    }
 }

@@ -2,7 +2,7 @@ ghost use Rattle.std.specs.Prelude.{Some, ◌≡◌, ◌*◌, ◌<◌, ◌≤◌
 ghost use Rattle.std.specs.Option.{ForSome};
 ghost use Rattle.dirac_vectors.specs.Neighbours.{IsShort};
 ghost use Rattle.dirac_vectors.specs.Predictions.{IsShortVector, split_of, mode_of, vector_of, dc_of};
-ghost use Rattle.dirac_block_table.specs.Neighbours.{left_of, above_of, corner_of, predicted, predicted_split};
+ghost use Rattle.dirac_block_table.specs.Neighbours.{near_at, predicted, predicted_split};
 ghost use Rattle.dirac_block_table.specs.Neighbours.{use_at, vector_at, dc_at};
 ghost use Rattle.dirac_block_table.specs.Tables.{split_at};
 
@@ -24,45 +24,26 @@ pub fn use_bit(table: &BlockData, reference: Reference, i: u32, j: u32) -> Optio
     }
 }
 
-/// Whether the reference is used to the left of block `i` of row `j`.
-fn left_use_bit(table: &BlockData, reference: Reference, i: u32, j: u32) -> Option<bool>
+/// Whether the reference is used so many blocks left and above of block `i` of row `j`; None outside the picture.
+fn near_use_bit(
+    table: &BlockData,
+    reference: Reference,
+    i: u32,
+    j: u32,
+    left: u32,
+    up: u32,
+) -> Option<bool>
     requires column { i < 4 * table.now.across }
     requires row { j < 4 * table.now.down }
-    ensures value { result ≡ left_of (use_at reference table.now) i j }
+    ensures value { result ≡ near_at (use_at reference table.now) i j left up }
 {
-    if i == 0 {
-        None
-    } else {
-        use_bit(table, reference, i - 1, j)
+    if i < left {
+        return None;
     }
-}
-
-/// Whether the reference is used above of block `i` of row `j`.
-fn above_use_bit(table: &BlockData, reference: Reference, i: u32, j: u32) -> Option<bool>
-    requires column { i < 4 * table.now.across }
-    requires row { j < 4 * table.now.down }
-    ensures value { result ≡ above_of (use_at reference table.now) i j }
-{
-    if j == 0 {
-        None
-    } else {
-        use_bit(table, reference, i, j - 1)
+    if j < up {
+        return None;
     }
-}
-
-/// Whether the reference is used above and to the left of block `i` of row `j`.
-fn corner_use_bit(table: &BlockData, reference: Reference, i: u32, j: u32) -> Option<bool>
-    requires column { i < 4 * table.now.across }
-    requires row { j < 4 * table.now.down }
-    ensures value { result ≡ corner_of (use_at reference table.now) i j }
-{
-    if i == 0 {
-        None
-    } else if j == 0 {
-        None
-    } else {
-        use_bit(table, reference, i - 1, j - 1)
-    }
+    use_bit(table, reference, i - left, j - up)
 }
 
 /// What the neighbours of block `i` of row `j` predict.
@@ -71,9 +52,9 @@ pub fn predicted_use_bit(table: &BlockData, reference: Reference, i: u32, j: u32
     requires row { j < 4 * table.now.down }
     ensures value { result ≡ predicted mode_of (use_at reference table.now) i j }
 {
-    let left = left_use_bit(table, reference, i, j);
-    let above = above_use_bit(table, reference, i, j);
-    let corner = corner_use_bit(table, reference, i, j);
+    let left = near_use_bit(table, reference, i, j, 1, 0);
+    let above = near_use_bit(table, reference, i, j, 0, 1);
+    let corner = near_use_bit(table, reference, i, j, 1, 1);
     predict_mode(left, above, corner)
 }
 
@@ -91,48 +72,27 @@ pub fn vector(table: &BlockData, reference: Reference, i: u32, j: u32) -> Option
     }
 }
 
-/// The vector to the left of block `i` of row `j`.
-fn left_vector(table: &BlockData, reference: Reference, i: u32, j: u32) -> Option<Vector>
+/// The vector so many blocks left and above of block `i` of row `j`; None outside the picture.
+fn near_vector(
+    table: &BlockData,
+    reference: Reference,
+    i: u32,
+    j: u32,
+    left: u32,
+    up: u32,
+) -> Option<Vector>
     requires column { i < 4 * table.now.across }
     requires row { j < 4 * table.now.down }
-    ensures value { result ≡ left_of (vector_at reference table.now) i j }
+    ensures value { result ≡ near_at (vector_at reference table.now) i j left up }
     ensures short { ForSome result IsShortVector }
 {
-    if i == 0 {
-        None
-    } else {
-        vector(table, reference, i - 1, j)
+    if i < left {
+        return None;
     }
-}
-
-/// The vector above of block `i` of row `j`.
-fn above_vector(table: &BlockData, reference: Reference, i: u32, j: u32) -> Option<Vector>
-    requires column { i < 4 * table.now.across }
-    requires row { j < 4 * table.now.down }
-    ensures value { result ≡ above_of (vector_at reference table.now) i j }
-    ensures short { ForSome result IsShortVector }
-{
-    if j == 0 {
-        None
-    } else {
-        vector(table, reference, i, j - 1)
+    if j < up {
+        return None;
     }
-}
-
-/// The vector above and to the left of block `i` of row `j`.
-fn corner_vector(table: &BlockData, reference: Reference, i: u32, j: u32) -> Option<Vector>
-    requires column { i < 4 * table.now.across }
-    requires row { j < 4 * table.now.down }
-    ensures value { result ≡ corner_of (vector_at reference table.now) i j }
-    ensures short { ForSome result IsShortVector }
-{
-    if i == 0 {
-        None
-    } else if j == 0 {
-        None
-    } else {
-        vector(table, reference, i - 1, j - 1)
-    }
+    vector(table, reference, i - left, j - up)
 }
 
 /// What the neighbours of block `i` of row `j` predict.
@@ -142,9 +102,9 @@ pub fn predicted_vector(table: &BlockData, reference: Reference, i: u32, j: u32)
     ensures value { result ≡ predicted vector_of (vector_at reference table.now) i j }
     ensures short { IsShortVector result }
 {
-    let left = left_vector(table, reference, i, j);
-    let above = above_vector(table, reference, i, j);
-    let corner = corner_vector(table, reference, i, j);
+    let left = near_vector(table, reference, i, j, 1, 0);
+    let above = near_vector(table, reference, i, j, 0, 1);
+    let corner = near_vector(table, reference, i, j, 1, 1);
     predict_vector(left, above, corner)
 }
 
@@ -166,48 +126,27 @@ pub fn dc(table: &BlockData, component: Component, i: u32, j: u32) -> Option<i32
     }
 }
 
-/// The DC value to the left of block `i` of row `j`.
-fn left_dc(table: &BlockData, component: Component, i: u32, j: u32) -> Option<i32>
+/// The DC value so many blocks left and above of block `i` of row `j`; None outside the picture.
+fn near_dc(
+    table: &BlockData,
+    component: Component,
+    i: u32,
+    j: u32,
+    left: u32,
+    up: u32,
+) -> Option<i32>
     requires column { i < 4 * table.now.across }
     requires row { j < 4 * table.now.down }
-    ensures value { result ≡ left_of (dc_at component table.now) i j }
+    ensures value { result ≡ near_at (dc_at component table.now) i j left up }
     ensures short { ForSome result IsShort }
 {
-    if i == 0 {
-        None
-    } else {
-        dc(table, component, i - 1, j)
+    if i < left {
+        return None;
     }
-}
-
-/// The DC value above of block `i` of row `j`.
-fn above_dc(table: &BlockData, component: Component, i: u32, j: u32) -> Option<i32>
-    requires column { i < 4 * table.now.across }
-    requires row { j < 4 * table.now.down }
-    ensures value { result ≡ above_of (dc_at component table.now) i j }
-    ensures short { ForSome result IsShort }
-{
-    if j == 0 {
-        None
-    } else {
-        dc(table, component, i, j - 1)
+    if j < up {
+        return None;
     }
-}
-
-/// The DC value above and to the left of block `i` of row `j`.
-fn corner_dc(table: &BlockData, component: Component, i: u32, j: u32) -> Option<i32>
-    requires column { i < 4 * table.now.across }
-    requires row { j < 4 * table.now.down }
-    ensures value { result ≡ corner_of (dc_at component table.now) i j }
-    ensures short { ForSome result IsShort }
-{
-    if i == 0 {
-        None
-    } else if j == 0 {
-        None
-    } else {
-        dc(table, component, i - 1, j - 1)
-    }
+    dc(table, component, i - left, j - up)
 }
 
 /// What the neighbours of block `i` of row `j` predict.
@@ -217,54 +156,26 @@ pub fn predicted_dc(table: &BlockData, component: Component, i: u32, j: u32) -> 
     ensures value { result ≡ predicted dc_of (dc_at component table.now) i j }
     ensures short { IsShort result }
 {
-    let left = left_dc(table, component, i, j);
-    let above = above_dc(table, component, i, j);
-    let corner = corner_dc(table, component, i, j);
+    let left = near_dc(table, component, i, j, 1, 0);
+    let above = near_dc(table, component, i, j, 0, 1);
+    let corner = near_dc(table, component, i, j, 1, 1);
     predict_dc(left, above, corner)
 }
 
-/// The split to the left of superblock `sx` of row `sy`.
-fn left_split(table: &BlockData, sx: u32, sy: u32) -> Option<u8>
+/// The split so many superblocks left and above of superblock `sx` of row `sy`; None outside the picture.
+fn near_split(table: &BlockData, sx: u32, sy: u32, left: u32, up: u32) -> Option<u8>
     requires column { sx < table.now.across }
     requires row { sy < table.now.down }
-    ensures value { result ≡ left_of (λ x y. Some (split_at table.now x y)) sx sy }
+    ensures value { result ≡ near_at (λ x y. Some (split_at table.now x y)) sx sy left up }
     ensures at_most_2 { ForSome result (λ s. s ≤ 2) }
 {
-    if sx == 0 {
-        None
-    } else {
-        Some(table.split(sx - 1, sy))
+    if sx < left {
+        return None;
     }
-}
-
-/// The split above superblock `sx` of row `sy`.
-fn above_split(table: &BlockData, sx: u32, sy: u32) -> Option<u8>
-    requires column { sx < table.now.across }
-    requires row { sy < table.now.down }
-    ensures value { result ≡ above_of (λ x y. Some (split_at table.now x y)) sx sy }
-    ensures at_most_2 { ForSome result (λ s. s ≤ 2) }
-{
-    if sy == 0 {
-        None
-    } else {
-        Some(table.split(sx, sy - 1))
+    if sy < up {
+        return None;
     }
-}
-
-/// The split above and to the left of superblock `sx` of row `sy`.
-fn corner_split(table: &BlockData, sx: u32, sy: u32) -> Option<u8>
-    requires column { sx < table.now.across }
-    requires row { sy < table.now.down }
-    ensures value { result ≡ corner_of (λ x y. Some (split_at table.now x y)) sx sy }
-    ensures at_most_2 { ForSome result (λ s. s ≤ 2) }
-{
-    if sx == 0 {
-        None
-    } else if sy == 0 {
-        None
-    } else {
-        Some(table.split(sx - 1, sy - 1))
-    }
+    Some(table.split(sx - left, sy - up))
 }
 
 /// The split that the neighbours of superblock `sx` of row `sy` predict.
@@ -274,8 +185,8 @@ pub fn predict_split_at(table: &BlockData, sx: u32, sy: u32) -> u8
     ensures value { result ≡ predicted_split table.now sx sy }
     ensures at_most_2 { result ≤ 2 }
 {
-    let left = left_split(table, sx, sy);
-    let above = above_split(table, sx, sy);
-    let corner = corner_split(table, sx, sy);
+    let left = near_split(table, sx, sy, 1, 0);
+    let above = near_split(table, sx, sy, 0, 1);
+    let corner = near_split(table, sx, sy, 1, 1);
     predict_split(left, above, corner)
 }

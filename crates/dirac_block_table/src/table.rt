@@ -1,8 +1,9 @@
 ghost use Rattle.std.specs.Prelude.{◌≡◌, ◌*◌, ◌^◌, ◌<◌, ◌≤◌, All, length, replicate, IfOk};
 ghost use Rattle.dirac_block_table.specs.Filling.{with_split, with_unit};
 ghost use Rattle.dirac_block_table.specs.Puts.{IsPut};
-ghost use Rattle.dirac_block_table.specs.Filling.{AllGrey, IsUnit};
-ghost use Rattle.dirac_block_table.specs.Tables.{BlockTable, IsBlock, IsBlockTable, IsSize, grey, split_at, block_at};
+ghost use Rattle.dirac_block_table.specs.Filling.{AllGrey, IsFirstOfUnit};
+ghost use Rattle.dirac_block_table.specs.Tables.{BlockTable, IsBlock, IsBlockTable, IsTableSize, grey, split_at};
+ghost use Rattle.dirac_block_table.specs.Tables.{block_at};
 
 use crate::block::Block;
 use crate::filling::fill_rows;
@@ -49,7 +50,7 @@ impl BlockData {
     /// A table of `across` by `down` superblocks for that many references: no superblock is split, and all blocks
     /// are DC blocks of value 0.
     pub fn try_new(alloc: Global, across: u32, down: u32, refs: u8) -> Result<BlockData, NoMemory>
-        requires { IsSize across down refs }
+        requires { IsTableSize across down refs }
         ensures { IfOk result (λ t. t ≡ record {
           across = across;
           down = down;
@@ -60,13 +61,19 @@ impl BlockData {
     {
         let columns = across as usize;
         let rows = down as usize;
-        Ok(BlockData {
-            across,
-            down,
-            refs,
-            splits: new_splits(alloc, rows * columns)?,
-            blocks: new_blocks(alloc, grey_block(), 4 * rows * (4 * columns))?,
-        })
+        match new_splits(alloc, rows * columns) {
+            Ok(splits) => match new_blocks(alloc, grey_block(), 4 * rows * (4 * columns)) {
+                Ok(blocks) => Ok(BlockData {
+                    across,
+                    down,
+                    refs,
+                    splits,
+                    blocks,
+                }),
+                Err(e) => Err(e),
+            },
+            Err(e) => Err(e),
+        }
     }
 
     /// The number of superblocks across.
@@ -156,7 +163,7 @@ impl BlockData {
 
     /// Writes the blocks of a unit, of `size` by `size` equal blocks from block `i` of row `j` on.
     pub fn set_unit(&mut self, size: u32, i: u32, j: u32, block: Block)
-        requires unit { IsUnit self.old size i j }
+        requires unit { IsFirstOfUnit self.old size i j }
         requires block { IsBlock self.old.refs block }
         ensures value { self.new ≡ with_unit self.old size i j block }
         ensures lawful { IsBlockTable self.new }
@@ -178,13 +185,19 @@ impl BlockData {
     pub fn try_copy(&self, alloc: Global) -> Result<BlockData, NoMemory>
         ensures { IfOk result (λ t. t ≡ self.now) }
     {
-        Ok(BlockData {
-            across: self.across,
-            down: self.down,
-            refs: self.refs,
-            splits: self.splits.try_copy(alloc)?,
-            blocks: self.blocks.try_copy(alloc)?,
-        })
+        match self.splits.try_copy(alloc) {
+            Ok(splits) => match self.blocks.try_copy(alloc) {
+                Ok(blocks) => Ok(BlockData {
+                    across: self.across,
+                    down: self.down,
+                    refs: self.refs,
+                    splits,
+                    blocks,
+                }),
+                Err(e) => Err(e),
+            },
+            Err(e) => Err(e),
+        }
     }
 }
 

@@ -3,7 +3,7 @@ use Rattle.std.proofs.Common.{◌≡◌, ℕ, pos, true, false, [], ◌∷◌, r
 use Rattle.dirac_common.specs.Numbers.{digits_within, digits_of}
 use Rattle.dirac_arith.specs.Spelling.{spelling, signed_spelling}
 use Rattle.dirac_block_table.specs.declared.block.Block.{Block}
-use Rattle.dirac_block_table.specs.Tables.{BlockTable, grey, unit_of, first_of}
+use Rattle.dirac_block_table.specs.Tables.{BlockTable, grey, unit_of, first_in_unit}
 use Rattle.dirac_blocks.specs.Decisions.{block_decisions, least_numbers, split_row, split_rows, unit_row, unit_rows, superblock_row, superblock_rows}
 
 -- a block from reference 1
@@ -37,5 +37,5 @@ number_of_zero = refl
 unit_of_a_half : unit_of 1 3 2 ≡ 3
 unit_of_a_half = refl
 
-first_of_a_half : first_of 1 3 ≡ 2
+first_of_a_half : first_in_unit 1 3 ≡ 2
 first_of_a_half = refl

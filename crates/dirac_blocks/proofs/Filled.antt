@@ -4,8 +4,8 @@ use Rattle.std.proofs.lemmas.Bool.{cases_lt, cases_eq}
 use Rattle.std.proofs.lemmas.Nat.{mul-le}
 use Rattle.dirac_block_table.specs.declared.block.Block.{Block}
 use Rattle.dirac_blocks.specs.Grammar.{with_unit}
-use Rattle.dirac_blocks.specs.Reached.{IsUnit, SameShape}
-use Rattle.dirac_block_table.specs.Tables.{BlockTable, IsBlockTable, grey, block_at, split_at, unit_size, first_of}
+use Rattle.dirac_blocks.specs.Reached.{IsFirstOfUnit, SameShape}
+use Rattle.dirac_block_table.specs.Tables.{BlockTable, IsBlockTable, grey, block_at, split_at, unit_size, first_in_unit}
 use Rattle.dirac_block_table.proofs.Fills.{filled_outside, split_few, unit_ends}
 use Rattle.dirac_block_table.proofs.Putting.{IsOutside}
 use Rattle.dirac_block_table.proofs.Units.{of_splits}
@@ -16,7 +16,7 @@ unit_is split p u h =
     of_splits (λ s. u * unit_size s ≤ p → p < u * unit_size s + unit_size s → p / unit_size s ≡ u) split h (λ a b. omega arith) (λ a b. omega arith) (λ a b. omega arith)
 
 -- all blocks of a unit equal its first one
-pub square : (t : BlockTable) (size i j : ℕ) → IsBlockTable t → IsUnit t size i j
+pub square : (t : BlockTable) (size i j : ℕ) → IsBlockTable t → IsFirstOfUnit t size i j
     → (x y : ℕ) → i ≤ x → x < i + size → j ≤ y → y < j + size → block_at t x y ≡ block_at t i j
 square t size i j inv k x y left right top bottom =
     let s = split_at t k.sx k.sy in
@@ -35,10 +35,10 @@ square t size i j inv k x y left right top bottom =
     let same = inv.units k.sx k.sy p q k.across k.down (omega arith) (omega arith) in
     let px : 4 * k.sx + p ≡ x = omega arith in
     let qy : 4 * k.sy + q ≡ y = omega arith in
-    let fi : 4 * k.sx + first_of s p ≡ i = ap (λ (n : ℕ). 4 * k.sx + n * unit_size s) pu ∙ ap (λ (n : ℕ). 4 * k.sx + k.u * n) (sym is) ∙ sym column in
-    let fj : 4 * k.sy + first_of s q ≡ j = ap (λ (n : ℕ). 4 * k.sy + n * unit_size s) qv ∙ ap (λ (n : ℕ). 4 * k.sy + k.v * n) (sym is) ∙ sym row in
+    let fi : 4 * k.sx + first_in_unit s p ≡ i = ap (λ (n : ℕ). 4 * k.sx + n * unit_size s) pu ∙ ap (λ (n : ℕ). 4 * k.sx + k.u * n) (sym is) ∙ sym column in
+    let fj : 4 * k.sy + first_in_unit s q ≡ j = ap (λ (n : ℕ). 4 * k.sy + n * unit_size s) qv ∙ ap (λ (n : ℕ). 4 * k.sy + k.v * n) (sym is) ∙ sym row in
     ap (λ (n : ℕ). block_at t n y) (sym px) ∙ ap (λ (n : ℕ). block_at t (4 * k.sx + p) n) (sym qy) ∙ same
-    ∙ ap (λ (n : ℕ). block_at t n (4 * k.sy + first_of s q)) fi ∙ ap (λ (n : ℕ). block_at t i n) fj
+    ∙ ap (λ (n : ℕ). block_at t n (4 * k.sy + first_in_unit s q)) fi ∙ ap (λ (n : ℕ). block_at t i n) fj
 
 -- where a block stands in a unit
 pub record InSquare (size i j x y : ℕ) : Type 0 where
@@ -48,7 +48,7 @@ pub record InSquare (size i j x y : ℕ) : Type 0 where
   pub bottom : y < j + size
 
 -- a block is one of the unit's, or it stays
-pub filled_or_same : (t : BlockTable) (size i j : ℕ) (b : Block) → IsBlockTable t → IsUnit t size i j
+pub filled_or_same : (t : BlockTable) (size i j : ℕ) (b : Block) → IsBlockTable t → IsFirstOfUnit t size i j
     → (x y : ℕ) → x < 4 * t.across → InSquare size i j x y ⊎ (block_at (with_unit t size i j b) x y ≡ block_at t x y)
 filled_or_same t size i j b inv k x y inside =
     let stays = λ (o : IsOutside i (i + size) j (j + size) x y). filled_outside t size i j b inv k x y inside o in

@@ -1,49 +1,49 @@
 -- Lists of a table, unit by unit and superblock by superblock.
 use Rattle.std.proofs.Common.{◌≡◌, ℕ, zero, suc, ◌+◌, ◌*◌, ◌^◌, ◌<◌, ◌≤◌, inl, inr, Ok, refl, sym, ap, ◌∙◌, arith, subst}
 use Rattle.std.proofs.lemmas.Nat.{mul-le}
-use Rattle.dirac_arith.specs.Coded.{done, read, repeated}
+use Rattle.dirac_arith.specs.Coded.{done, read_coded, repeated}
 use Rattle.dirac_arith.specs.Deciding.{begin, after_all}
-use Rattle.dirac_arith.specs.Reading.{Reading, Reads}
+use Rattle.dirac_arith.specs.Reading.{Reading, DecisionsAreRead}
 use Rattle.dirac_arith.proofs.Carrieds.{IsLed}
 use Rattle.dirac_arith.proofs.CodedValues.{then_is_read}
 use Rattle.dirac_arith.proofs.Led.{led_begin, led_more, reads_parted, carried_reads}
 use Rattle.dirac_block_table.specs.declared.block.Block.{Block}
 use Rattle.dirac_blocks.specs.declared.parts.ListKind.{ListKind}
-use Rattle.dirac_blocks.specs.Carried.{with_part}
+use Rattle.dirac_blocks.specs.Carried.{with_list_part}
 use Rattle.dirac_blocks.specs.Decisions.{unit_row, unit_rows, superblock_part, superblock_row, superblock_rows, unit_decisions}
-use Rattle.dirac_blocks.specs.Grammar.{Step, with_unit, unit_coded, unit_step, unit_row_step, unit_rows_step, superblock_step, units_step}
+use Rattle.dirac_blocks.specs.Grammar.{TableStep, with_unit, unit_coded, unit_read_step, unit_row_step, unit_rows_step, superblock_step, units_step}
 use Rattle.dirac_blocks.specs.Laws.{CarriedIsRead}
 use Rattle.dirac_blocks.specs.Parts.{part_at}
-use Rattle.dirac_blocks.specs.Reached.{SameShape, IsUnit}
+use Rattle.dirac_blocks.specs.Reached.{SameShape, IsFirstOfUnit}
 use Rattle.dirac_block_table.specs.Tables.{BlockTable, IsBlock, IsBlockTable, block_at, split_at, unit_size}
 use Rattle.dirac_blocks.proofs.Filled.{square, filled_or_same, one_table}
 use Rattle.dirac_block_table.proofs.Fills.{filled_inside, unit_lawful, split_few, unit_placed}
 use Rattle.dirac_blocks.proofs.Forwards.{Meets, unit_forward}
 use Rattle.dirac_blocks.proofs.Going.{Goes, nothing_goes, beside_goes, below_goes, kept, grown, none_left, none_above}
 use Rattle.dirac_blocks.proofs.Nearby.{SameWithin, near_within, block_lawful}
-use Rattle.dirac_blocks.proofs.Shapes.{repeated_sizes, split_same, unit_same}
-use Rattle.dirac_block_table.proofs.Units.{of_splits, size_some}
+use Rattle.dirac_blocks.proofs.Shapes.{repeated_sizes, split_same, unit_same, unit_of_superblock, units_fill}
+use Rattle.dirac_block_table.proofs.Units.{size_some}
 use Rattle.dirac_blocks.proofs.Valued.{part_again}
 
 -- a table on its way to a finished one: what it lacks is in this part
 pub record Toward (part : ListKind) (m u : BlockTable) : Type 0 where
   pub lawful : IsBlockTable m
   pub shape : SameShape u m
-  pub rest : (x y : ℕ) → x < 4 * u.across → y < 4 * u.down → with_part part (block_at m x y) (block_at u x y) ≡ block_at u x y
+  pub rest : (x y : ℕ) → x < 4 * u.across → y < 4 * u.down → with_list_part part (block_at m x y) (block_at u x y) ≡ block_at u x y
 
 -- a step leads toward the finished table, and fills a rectangle of its blocks
-abbrev pub UnitsGo : ListKind → BlockTable → Step → BlockTable → Reading → Reading → ℕ → ℕ → ℕ → ℕ → Type 0
+abbrev pub UnitsGo : ListKind → BlockTable → TableStep → BlockTable → Reading → Reading → ℕ → ℕ → ℕ → ℕ → Type 0
 UnitsGo part u step m r s left right top bottom = Goes (λ t. Toward part t u) block_at (4 * u.across) u step m r s left right top bottom
 
 -- a part that is told again is the same
-part_twice : (part : ListKind) (a b : Block) → with_part part a b ≡ b → with_part part b b ≡ b
-part_twice part a b is = subst (λ (x : Block). with_part part x b ≡ b) is (part_again part a b b ∙ is)
+part_twice : (part : ListKind) (a b : Block) → with_list_part part a b ≡ b → with_list_part part b b ≡ b
+part_twice part a b is = subst (λ (x : Block). with_list_part part x b ≡ b) is (part_again part a b b ∙ is)
 
 -- a unit
-unit_goes : (part : ListKind) (u m : BlockTable) (size i j : ℕ) (r s : Reading) → IsBlockTable u → Toward part m u → IsUnit u size i j
-    → SameWithin m u i (j + 1) → SameWithin m u (i + 1) j → IsLed r → Reads r (part_at part u i j) s
-    → UnitsGo part u (unit_step part size i j) m r s i (i + size) j (j + size)
-unfolding unit_step
+unit_goes : (part : ListKind) (u m : BlockTable) (size i j : ℕ) (r s : Reading) → IsBlockTable u → Toward part m u → IsFirstOfUnit u size i j
+    → SameWithin m u i (j + 1) → SameWithin m u (i + 1) j → IsLed r → DecisionsAreRead r (part_at part u i j) s
+    → UnitsGo part u (unit_read_step part size i j) m r s i (i + size) j (j + size)
+unfolding unit_read_step
 unit_goes part u m size i j r s inv toward unit before over led reads =
     let placed = unit_placed u size i j inv unit in
     let some = placed.some in
@@ -74,8 +74,8 @@ unit_goes part u m size i j r s inv toward unit before over led reads =
               | inl k ↦
                   let filled = filled_inside m size i j b toward.lawful here x y k.left k.right k.top k.bottom in
                   let equal = square u size i j inv unit x y k.left k.right k.top k.bottom in
-                  subst (λ (c : Block). with_part part c (block_at u x y) ≡ block_at u x y) (equal ∙ sym filled) (part_twice part (block_at m x y) (block_at u x y) (toward.rest x y p q))
-              | inr same ↦ subst (λ (c : Block). with_part part c (block_at u x y) ≡ block_at u x y) (sym same) (toward.rest x y p q)
+                  subst (λ (c : Block). with_list_part part c (block_at u x y) ≡ block_at u x y) (equal ∙ sym filled) (part_twice part (block_at m x y) (block_at u x y) (toward.rest x y p q))
+              | inr same ↦ subst (λ (c : Block). with_list_part part c (block_at u x y) ≡ block_at u x y) (sym same) (toward.rest x y p q)
             ];
       };
       inside = λ x y a c d e. filled_inside m size i j b toward.lawful here x y a c d e ∙ sym (square u size i j inv unit x y a c d e);
@@ -88,8 +88,8 @@ unit_goes part u m size i j r s inv toward unit before over led reads =
 
 -- n units of a row
 pub row_goes : (part : ListKind) (u m : BlockTable) (size i j count n : ℕ) (r s : Reading) → IsBlockTable u → Toward part m u
-    → ((k : ℕ) → k < count → IsUnit u size (i + k * size) j) → i + count * size ≤ 4 * u.across → 1 ≤ size → n ≤ count
-    → SameWithin m u i (j + size) → SameWithin m u (i + count * size) j → IsLed r → Reads r (unit_row (part_at part u) size i j n) s
+    → ((k : ℕ) → k < count → IsFirstOfUnit u size (i + k * size) j) → i + count * size ≤ 4 * u.across → 1 ≤ size → n ≤ count
+    → SameWithin m u i (j + size) → SameWithin m u (i + count * size) j → IsLed r → DecisionsAreRead r (unit_row (part_at part u) size i j n) s
     → UnitsGo part u (unit_row_step part size i j n) m r s i (i + n * size) j (j + size)
 unfolding unit_row repeated
 row_goes part u m size i j count zero r s inv toward units fits some few before over led reads =
@@ -107,8 +107,8 @@ row_goes part u m size i j count (suc n) r s inv toward units fits some few befo
 
 -- n rows of units
 pub rows_go : (part : ListKind) (u m : BlockTable) (size across i j count n : ℕ) (r s : Reading) → IsBlockTable u → Toward part m u
-    → ((k l : ℕ) → k < across → l < count → IsUnit u size (i + k * size) (j + l * size)) → i + across * size ≤ 4 * u.across → 1 ≤ size → n ≤ count
-    → SameWithin m u i (j + count * size) → SameWithin m u (i + across * size) j → IsLed r → Reads r (unit_rows (part_at part u) size across i j n) s
+    → ((k l : ℕ) → k < across → l < count → IsFirstOfUnit u size (i + k * size) (j + l * size)) → i + across * size ≤ 4 * u.across → 1 ≤ size → n ≤ count
+    → SameWithin m u i (j + count * size) → SameWithin m u (i + across * size) j → IsLed r → DecisionsAreRead r (unit_rows (part_at part u) size across i j n) s
     → UnitsGo part u (unit_rows_step part size across i j n) m r s i (i + across * size) j (j + n * size)
 unfolding unit_rows repeated
 rows_go part u m size across i j count zero r s inv toward units fits some few before over led reads =
@@ -124,17 +124,9 @@ rows_go part u m size across i j count (suc n) r s inv toward units fits some fe
     let end : suc n * size ≡ n * size + size = omega arith in
     below_goes (j + suc n * size) (omega arith) (omega arith) g h
 
--- the units of a superblock fill it
-pub units_fill : (split : ℕ) → split ≤ 2 → 2 ^ split * unit_size split ≡ 4
-units_fill split h = of_splits (λ s. 2 ^ s * unit_size s ≡ 4) split h (omega arith) (omega arith) (omega arith)
-
-pub unit_of_superblock : (u : BlockTable) (sx sy k l : ℕ) → sx < u.across → sy < u.down → k < 2 ^ split_at u sx sy → l < 2 ^ split_at u sx sy
-    → (let size = unit_size (split_at u sx sy) in IsUnit u size (4 * sx + k * size) (4 * sy + l * size))
-unit_of_superblock u sx sy k l hx hy hk hl =
-    record { sx = sx; sy = sy; u = k; v = l; across = hx; down = hy; is = refl; some = hk; few = hl; column = refl; row = refl }
-
+-- a superblock
 superblock_goes : (part : ListKind) (u m : BlockTable) (sx sy : ℕ) (r s : Reading) → IsBlockTable u → Toward part m u → sx < u.across → sy < u.down
-    → SameWithin m u (4 * sx) (4 * sy + 4) → SameWithin m u (4 * sx + 4) (4 * sy) → IsLed r → Reads r (superblock_part (part_at part u) u sx sy) s
+    → SameWithin m u (4 * sx) (4 * sy + 4) → SameWithin m u (4 * sx + 4) (4 * sy) → IsLed r → DecisionsAreRead r (superblock_part (part_at part u) u sx sy) s
     → UnitsGo part u (superblock_step part sy sx) m r s (4 * sx) (4 * sx + 4) (4 * sy) (4 * sy + 4)
 unfolding superblock_step
 superblock_goes part u m sx sy r s inv toward hx hy before over led reads =
@@ -149,7 +141,7 @@ superblock_goes part u m sx sy r s inv toward hx hy before over led reads =
     (omega arith) (size_some t two) (omega arith) within above led reads in
     record {
       table = g.table;
-      is = subst (λ (n : ℕ). read (unit_rows_step part (unit_size n) (2 ^ n) (4 * sx) (4 * sy) (2 ^ n) m) r ≡ Ok (g.table, s)) (sym split) g.is;
+      is = subst (λ (n : ℕ). read_coded (unit_rows_step part (unit_size n) (2 ^ n) (4 * sx) (4 * sy) (2 ^ n) m) r ≡ Ok (g.table, s)) (sym split) g.is;
       toward = g.toward;
       inside = λ x y a c d e. g.inside x y a (omega arith) d (omega arith);
       keeps = g.keeps;
@@ -157,7 +149,7 @@ superblock_goes part u m sx sy r s inv toward hx hy before over led reads =
 
 -- n superblocks of a row
 pub superblocks_go : (part : ListKind) (u m : BlockTable) (sy n : ℕ) (r s : Reading) → IsBlockTable u → Toward part m u → n ≤ u.across → sy < u.down
-    → SameWithin m u (4 * u.across) (4 * sy) → IsLed r → Reads r (superblock_row (part_at part u) u sy n) s
+    → SameWithin m u (4 * u.across) (4 * sy) → IsLed r → DecisionsAreRead r (superblock_row (part_at part u) u sy n) s
     → UnitsGo part u (λ x. repeated (superblock_step part sy) n x) m r s 0 (4 * n) (4 * sy) (4 * sy + 4)
 unfolding superblock_row repeated
 superblocks_go part u m sy zero r s inv toward few hy over led reads =
@@ -173,7 +165,7 @@ superblocks_go part u m sy (suc n) r s inv toward few hy over led reads =
 
 -- n rows of superblocks
 pub superblock_rows_go : (part : ListKind) (u m : BlockTable) (n : ℕ) (r s : Reading) → IsBlockTable u → Toward part m u → n ≤ u.down
-    → IsLed r → Reads r (superblock_rows (part_at part u) u n) s
+    → IsLed r → DecisionsAreRead r (superblock_rows (part_at part u) u n) s
     → UnitsGo part u (λ x. repeated (λ sy. repeated (superblock_step part sy) u.across) n x) m r s 0 (4 * u.across) 0 (4 * n)
 unfolding superblock_rows repeated
 superblock_rows_go part u m zero r s inv toward few led reads =
@@ -204,6 +196,6 @@ carried_is_read part former t block inv h =
     let g = superblock_rows_go part t former t.down (begin block) s h.lawful toward (omega arith) (led_begin block)
     (carried_reads block (unit_decisions t (part_at part t)) h.carried) in
     let one : g.table ≡ t = one_table g.table t g.toward.lawful h.lawful g.toward.shape (λ x y p q. g.inside x y (omega arith) p (omega arith) q) in
-    let at_across : read (repeated (λ sy. repeated (superblock_step part sy) former.across) former.down former) (begin block) ≡ Ok (g.table, s) =
+    let at_across : read_coded (repeated (λ sy. repeated (superblock_step part sy) former.across) former.down former) (begin block) ≡ Ok (g.table, s) =
     repeated_sizes (superblock_step part) former (begin block) rest.shape.across rest.shape.down g.is in
-    (s, subst (λ (x : BlockTable). read (units_step part former) (begin block) ≡ Ok (x, s)) one at_across)
+    (s, subst (λ (x : BlockTable). read_coded (units_step part former) (begin block) ≡ Ok (x, s)) one at_across)

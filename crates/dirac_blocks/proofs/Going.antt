@@ -2,10 +2,10 @@
 use Rattle.std.proofs.Common.{◌≡◌, ℕ, ◌<◌, ◌≤◌, inl, inr, [], Result, Ok, sym, ap, ◌∙◌, arith}
 use Rattle.std.proofs.lemmas.Bool.{cases_lt}
 use Rattle.dirac_common.specs.declared.faults.Cause.{Cause}
-use Rattle.dirac_arith.specs.Coded.{read, and_then}
-use Rattle.dirac_arith.specs.Reading.{Reading, Reads}
+use Rattle.dirac_arith.specs.Coded.{read_coded, and_then}
+use Rattle.dirac_arith.specs.Reading.{Reading, DecisionsAreRead}
 use Rattle.dirac_arith.proofs.CodedValues.{then_is_read}
-use Rattle.dirac_blocks.specs.Grammar.{Step}
+use Rattle.dirac_blocks.specs.Grammar.{TableStep}
 use Rattle.dirac_block_table.specs.Tables.{BlockTable}
 
 -- the same at all places left of column `right` and above row `bottom`
@@ -13,16 +13,16 @@ pub record Same {A : Type 0} (at : BlockTable → ℕ → ℕ → A) (t u : Bloc
   pub each : (x y : ℕ) → x < right → y < bottom → at t x y ≡ at u x y
 
 -- a step leads toward the finished table, and fills a rectangle
-pub record Goes {A : Type 0} (Toward : BlockTable → Type 0) (at : BlockTable → ℕ → ℕ → A) (width : ℕ) (u : BlockTable) (step : Step) (m : BlockTable) (r s : Reading) (left right top bottom : ℕ) : Type 0 where
+pub record Goes {A : Type 0} (Toward : BlockTable → Type 0) (at : BlockTable → ℕ → ℕ → A) (width : ℕ) (u : BlockTable) (step : TableStep) (m : BlockTable) (r s : Reading) (left right top bottom : ℕ) : Type 0 where
   pub table : BlockTable
-  pub is : read (step m) r ≡ Ok (table, s)
+  pub is : read_coded (step m) r ≡ Ok (table, s)
   pub toward : Toward table
   pub inside : (x y : ℕ) → left ≤ x → x < right → top ≤ y → y < bottom → at table x y ≡ at u x y
   pub keeps : (x y : ℕ) → x < width → at m x y ≡ at u x y → at table x y ≡ at u x y
 
 -- no step
-pub nothing_goes : {A : Type 0} {Toward : BlockTable → Type 0} {at : BlockTable → ℕ → ℕ → A} {width : ℕ} {u : BlockTable} {step : Step} {m : BlockTable} {r s : Reading} {left right top bottom : ℕ}
-    → read (step m) r ≡ Ok (m, r) → Toward m → Reads r [] s → ((x y : ℕ) → left ≤ x → x < right → top ≤ y → y < bottom → ⊥)
+pub nothing_goes : {A : Type 0} {Toward : BlockTable → Type 0} {at : BlockTable → ℕ → ℕ → A} {width : ℕ} {u : BlockTable} {step : TableStep} {m : BlockTable} {r s : Reading} {left right top bottom : ℕ}
+    → read_coded (step m) r ≡ Ok (m, r) → Toward m → DecisionsAreRead r [] s → ((x y : ℕ) → left ≤ x → x < right → top ≤ y → y < bottom → ⊥)
     → Goes Toward at width u step m r s left right top bottom
 nothing_goes {m = m} is toward reads none =
     record {
@@ -34,7 +34,7 @@ nothing_goes {m = m} is toward reads none =
     }
 
 -- two steps, whose rectangles lie beside one another
-pub beside_goes : {A : Type 0} {Toward : BlockTable → Type 0} {at : BlockTable → ℕ → ℕ → A} {width : ℕ} {u : BlockTable} {first next : Step} {m : BlockTable} {r q s : Reading} {left middle end top bottom : ℕ} (right : ℕ)
+pub beside_goes : {A : Type 0} {Toward : BlockTable → Type 0} {at : BlockTable → ℕ → ℕ → A} {width : ℕ} {u : BlockTable} {first next : TableStep} {m : BlockTable} {r q s : Reading} {left middle end top bottom : ℕ} (right : ℕ)
     → middle ≤ width → end ≡ right → (g : Goes Toward at width u first m r q left middle top bottom) → Goes Toward at width u next g.table q s middle end top bottom
     → Goes Toward at width u (λ t. and_then (first t) next) m r s left right top bottom
 beside_goes {first = first} {next = next} {m = m} {r = r} {middle = middle} right fits is g h =
@@ -51,7 +51,7 @@ beside_goes {first = first} {next = next} {m = m} {r = r} {middle = middle} righ
     }
 
 -- and below one another
-pub below_goes : {A : Type 0} {Toward : BlockTable → Type 0} {at : BlockTable → ℕ → ℕ → A} {width : ℕ} {u : BlockTable} {first next : Step} {m : BlockTable} {r q s : Reading} {left right top middle end : ℕ} (bottom : ℕ)
+pub below_goes : {A : Type 0} {Toward : BlockTable → Type 0} {at : BlockTable → ℕ → ℕ → A} {width : ℕ} {u : BlockTable} {first next : TableStep} {m : BlockTable} {r q s : Reading} {left right top middle end : ℕ} (bottom : ℕ)
     → right ≤ width → end ≡ bottom → (g : Goes Toward at width u first m r q left right top middle) → Goes Toward at width u next g.table q s left right middle end
     → Goes Toward at width u (λ t. and_then (first t) next) m r s left right top bottom
 below_goes {first = first} {next = next} {m = m} {r = r} {middle = middle} bottom fits is g h =
@@ -68,12 +68,12 @@ below_goes {first = first} {next = next} {m = m} {r = r} {middle = middle} botto
     }
 
 -- what was the same stays so
-pub kept : {A : Type 0} {Toward : BlockTable → Type 0} {at : BlockTable → ℕ → ℕ → A} {width : ℕ} {u : BlockTable} {step : Step} {m : BlockTable} {r s : Reading} {left right top bottom across : ℕ} (wide high : ℕ) {down : ℕ}
+pub kept : {A : Type 0} {Toward : BlockTable → Type 0} {at : BlockTable → ℕ → ℕ → A} {width : ℕ} {u : BlockTable} {step : TableStep} {m : BlockTable} {r s : Reading} {left right top bottom across : ℕ} (wide high : ℕ) {down : ℕ}
     → wide ≤ across → wide ≤ width → high ≤ down → (g : Goes Toward at width u step m r s left right top bottom) → Same at m u across down → Same at g.table u wide high
 kept wide high a b c g same = record { each = λ x y p q. g.keeps x y (omega arith) (same.each x y (omega arith) (omega arith)) }
 
 -- all is the same left of a rectangle's end and above it, where it was so left of the rectangle and above it
-pub grown : {A : Type 0} {Toward : BlockTable → Type 0} {at : BlockTable → ℕ → ℕ → A} {width : ℕ} {u : BlockTable} {step : Step} {m : BlockTable} {r s : Reading} {left right top bottom down across : ℕ} (high : ℕ)
+pub grown : {A : Type 0} {Toward : BlockTable → Type 0} {at : BlockTable → ℕ → ℕ → A} {width : ℕ} {u : BlockTable} {step : TableStep} {m : BlockTable} {r s : Reading} {left right top bottom down across : ℕ} (high : ℕ)
     → high ≤ bottom → high ≤ down → right ≤ across → right ≤ width → (g : Goes Toward at width u step m r s left right top bottom) → Same at m u left down → Same at m u across top → Same at g.table u right high
 grown {left = left} {top = top} high a b c d g before over =
     record {

@@ -1,5 +1,5 @@
 -- Lists of a table that are read one after another.
-use Rattle.std.proofs.Common.{◌≡◌, ℕ, List, Ok, Err, Result, ap, subst, sym, ◌∙◌}
+use Rattle.std.proofs.Common.{◌≡◌, ℕ, List, Ok, Err, Option, Some, None, Result, refl, ap, subst, sym, ◌∙◌}
 use Rattle.dirac_common.specs.Chain.{◌>>=◌ as ◌>>◌}
 use Rattle.dirac_common.specs.declared.faults.Cause.{Cause}
 use Rattle.dirac_common.specs.declared.faults.Refusal.{Refusal}
@@ -7,17 +7,18 @@ use Rattle.dirac_arith.specs.Coded as coded
 use Rattle.dirac_arith.specs.Deciding.{begin}
 use Rattle.dirac_arith.specs.Reading.{Reading}
 use Rattle.dirac_bits.specs.Cursor.{Cursor, place, aligned}
-use Rattle.dirac_bits.specs.Fields.{uint_at, block_at}
+use Rattle.dirac_bits.specs.Fields.{uint_at, block_read_at}
 use Rattle.dirac_bits.specs.Syntax.{Syntax, ◌>>=◌, read}
 use Rattle.dirac_bits.specs.Then.{read_then}
-use Rattle.dirac_blocks.specs.Grammar.{Step, listed, table_from}
-use Rattle.dirac_blocks.specs.Reached.{Lists}
+use Rattle.dirac_blocks.specs.declared.parts.ListKind.{ListKind}
+use Rattle.dirac_blocks.specs.Grammar.{TableStep, blocks, empty_table, list_over, lists_of, table_from}
+use Rattle.dirac_blocks.specs.Reached.{ListIsRead}
 use Rattle.dirac_block_table.specs.Tables.{BlockTable}
 
 -- behind a list that is read, what comes then is read
-pub then_read : {A : Type 0} (r : Result A Refusal) (s : Syntax BlockTable) (f : BlockTable → Syntax BlockTable) (c e d : Cursor) (t u : BlockTable) → read s c ≡ Ok (t, e) → Lists r u d (read (f t) e) → Lists r u d (read (s >>= f) c)
+pub then_read : {A : Type 0} (r : Result A Refusal) (s : Syntax BlockTable) (f : BlockTable → Syntax BlockTable) (c e d : Cursor) (t u : BlockTable) → read s c ≡ Ok (t, e) → ListIsRead r u d (read (f t) e) → ListIsRead r u d (read (s >>= f) c)
 then_read r s f c e d t u first second =
-    subst (λ (q : Result (BlockTable × Cursor) Refusal). Lists r u d q) (sym (read_then s f c ∙ ap (λ (q : Result (BlockTable × Cursor) Refusal). q >> (λ x. read (f x.0) x.1)) first)) second
+    subst (λ (q : Result (BlockTable × Cursor) Refusal). ListIsRead r u d q) (sym (read_then s f c ∙ ap (λ (q : Result (BlockTable × Cursor) Refusal). q >> (λ x. read (f x.0) x.1)) first)) second
 
 -- what refuses a list refuses them all
 pub then_refused : (s : Syntax BlockTable) (f : BlockTable → Syntax BlockTable) (c : Cursor) (e : Refusal) → read s c ≡ Err e → read (s >>= f) c ≡ Err e
@@ -28,22 +29,48 @@ pub then_stops : (s : Syntax BlockTable) (f : BlockTable → Syntax BlockTable) 
 then_stops s f c d t e first second = read_then s f c ∙ ap (λ (q : Result (BlockTable × Cursor) Refusal). q >> (λ x. read (f x.0) x.1)) first ∙ second
 
 -- a list is read from its block
-pub list_found : (step : Step) (t u : BlockTable) (c one two three : Cursor) (len : ℕ) (block : List ℕ) (start behind : Reading) → uint_at c ≡ Ok (len, one) → two ≡ aligned one → block_at len two ≡ Ok (block, three) → start ≡ begin block
-    → coded.read (step t) start ≡ Ok (u, behind) → read (listed step t) c ≡ Ok (u, three)
-unfolding listed
+pub list_found : (step : TableStep) (t u : BlockTable) (c one two three : Cursor) (len : ℕ) (block : List ℕ) (start behind : Reading) → uint_at c ≡ Ok (len, one) → two ≡ aligned one → block_read_at len two ≡ Ok (block, three) → start ≡ begin block
+    → coded.read_coded (step t) start ≡ Ok (u, behind) → read (list_over step t) c ≡ Ok (u, three)
+unfolding list_over
 list_found step t u c one two three len block start behind first second third begun found =
-    let bytes = ap (λ (d : Cursor). block_at len d) (sym second) ∙ third in
-    let is = ap (λ (r : Reading). coded.read (step t) r) (sym begun) ∙ found in
+    let bytes = ap (λ (d : Cursor). block_read_at len d) (sym second) ∙ third in
+    let is = ap (λ (r : Reading). coded.read_coded (step t) r) (sym begun) ∙ found in
     rw (first, bytes) (ap (λ (q : Result (BlockTable × Reading) Cause). read (table_from (place (aligned one)) q) three) is)
 
 -- and is refused at its block
-pub list_refused : (step : Step) (t : BlockTable) (c one two three : Cursor) (len : ℕ) (block : List ℕ) (start : Reading) (cause : Cause) (at : ℕ) → uint_at c ≡ Ok (len, one) → two ≡ aligned one → block_at len two ≡ Ok (block, three) → start ≡ begin block
-    → coded.read (step t) start ≡ Err cause → at ≡ place two → read (listed step t) c ≡ Err (record { at = at; cause = cause })
-unfolding listed
+pub list_refused : (step : TableStep) (t : BlockTable) (c one two three : Cursor) (len : ℕ) (block : List ℕ) (start : Reading) (cause : Cause) (at : ℕ) → uint_at c ≡ Ok (len, one) → two ≡ aligned one → block_read_at len two ≡ Ok (block, three) → start ≡ begin block
+    → coded.read_coded (step t) start ≡ Err cause → at ≡ place two → read (list_over step t) c ≡ Err (record { at = at; cause = cause })
+unfolding list_over
 list_refused step t c one two three len block start cause at first second third begun refused here =
-    let bytes = ap (λ (d : Cursor). block_at len d) (sym second) ∙ third in
-    let is = ap (λ (r : Reading). coded.read (step t) r) (sym begun) ∙ refused in
+    let bytes = ap (λ (d : Cursor). block_read_at len d) (sym second) ∙ third in
+    let is = ap (λ (r : Reading). coded.read_coded (step t) r) (sym begun) ∙ refused in
     let place_is : place (aligned one) ≡ at = ap (λ (d : Cursor). place d) (sym second) ∙ sym here in
     rw (first, bytes)
     (ap (λ (q : Result (BlockTable × Reading) Cause). read (table_from (place (aligned one)) q) three) is
     ∙ ap (λ (p : ℕ). let x : Result (BlockTable × Cursor) Refusal = Err (record { at = p; cause = cause }) in x) place_is)
+
+-- its length is refused
+pub length_refused : (step : TableStep) (t : BlockTable) (c : Cursor) (e : Refusal) → uint_at c ≡ Err e → read (list_over step t) c ≡ Err e
+unfolding list_over
+length_refused step t c e first = rw first refl
+
+-- or there are fewer bytes than that
+pub block_refused : (step : TableStep) (t : BlockTable) (c one two : Cursor) (len : ℕ) (e : Refusal) → uint_at c ≡ Ok (len, one) → two ≡ aligned one → block_read_at len two ≡ Err e → read (list_over step t) c ≡ Err e
+unfolding list_over
+block_refused step t c one two len e first second third =
+    let none = ap (λ (d : Cursor). block_read_at len d) (sym second) ∙ third in
+    rw (first, none) refl
+
+-- a table is read as its lists are, from the next byte on
+pub blocks_read : (across down refs : ℕ) (t : BlockTable) (c one : Cursor) (q : Result (BlockTable × Cursor) Refusal) → t ≡ empty_table across down refs → one ≡ aligned c
+    → read (lists_of t) one ≡ q → read (blocks across down refs) c ≡ q
+unfolding blocks
+blocks_read across down refs t c one q made begun found =
+    subst (λ (d : Cursor). read (lists_of (empty_table across down refs)) d ≡ q) begun (subst (λ (u : BlockTable). read (lists_of u) one ≡ q) made found)
+
+-- a list of which a part is named isn't that of the splits
+pub not_splits : {P : Type 0} (part : ListKind) → (let q : Option ListKind = Some part in q ≡ None) → P
+not_splits part e = absurd (none part e)
+  where
+    none : (part : ListKind) → (let q : Option ListKind = Some part in q ≡ None) → ⊥
+    none part e = cc

@@ -3,7 +3,7 @@ use Rattle.std.proofs.Common.{◌≡◌, ℕ, ℤ, ◌+◌, ◌*◌, ◌^◌, �
 use Rattle.dirac_common.specs.declared.faults.Cause.{Cause}
 use Rattle.dirac_common.specs.declared.faults.Cause.TheVariants as cause
 use Rattle.dirac_arith.specs.Carried.{Carries}
-use Rattle.dirac_arith.specs.Coded.{done, read, repeated}
+use Rattle.dirac_arith.specs.Coded.{done, read_coded, repeated}
 use Rattle.dirac_arith.specs.Deciding.{begin}
 use Rattle.dirac_arith.specs.Front.{front}
 use Rattle.dirac_arith.specs.Interval.{Decision}
@@ -17,8 +17,8 @@ use Rattle.dirac_blocks.specs.declared.parts.ListKind.{ListKind}
 use Rattle.dirac_blocks.specs.declared.parts.ListKind.TheVariants as parts
 use Rattle.dirac_blocks.specs.Carried.{ReadsTo}
 use Rattle.dirac_blocks.specs.Decisions.{unit_decisions}
-use Rattle.dirac_blocks.specs.Grammar.{Step, coded_into, unit_coded, with_unit, unit_step, unit_row_step, superblock_step, split_step, units_step}
-use Rattle.dirac_blocks.specs.Laws.{RefusedIsBroken, OnesAreRefused, OnesRefuseSplits}
+use Rattle.dirac_blocks.specs.Grammar.{TableStep, coded_into, unit_coded, with_unit, unit_read_step, unit_row_step, superblock_step, split_step, units_step}
+use Rattle.dirac_blocks.specs.Laws.{RefusedIsBroken, OnesInListAreRefused, OnesRefuseSplits}
 use Rattle.dirac_blocks.specs.Parts.{part_at}
 use Rattle.dirac_block_table.specs.Tables.{BlockTable, block_at, split_at, unit_size}
 use Rattle.dirac_blocks.proofs.BackwardLoops.{read_is_carried}
@@ -38,8 +38,8 @@ unit_open (parts.Across k) t i j = let l = across_tells k in told_open (l.has (b
 unit_open (parts.Down k) t i j = let l = down_tells k in told_open (l.has (block_at t i j)) (block_at t i j) l.put (l.told t i j)
 unit_open (parts.Dc c) t i j = let l = dc_tells c in told_open (l.has (block_at t i j)) (block_at t i j) l.put (l.told t i j)
 
-step_open : (part : ListKind) (size i j : ℕ) (t : BlockTable) → Open (unit_step part size i j t)
-unfolding unit_step
+step_open : (part : ListKind) (size i j : ℕ) (t : BlockTable) → Open (unit_read_step part size i j t)
+unfolding unit_read_step
 step_open part size i j t = then_open (unit_coded part t i j) (λ b. done (with_unit t size i j b)) (unit_open part t i j) (λ b. tt)
 
 superblock_open : (part : ListKind) (sy sx : ℕ) (t : BlockTable) → Open (superblock_step part sy sx t)
@@ -48,7 +48,7 @@ superblock_open part sy sx t =
     let s = split_at t sx sy in
     let size = unit_size s in
     repeated_open (λ v. unit_row_step part size (4 * sx) (4 * sy + v * size) (2 ^ s)) (2 ^ s) t
-    (λ v u. repeated_open (λ w. unit_step part size (4 * sx + w * size) (4 * sy + v * size)) (2 ^ s) u (λ w x. step_open part size (4 * sx + w * size) (4 * sy + v * size) x))
+    (λ v u. repeated_open (λ w. unit_read_step part size (4 * sx + w * size) (4 * sy + v * size)) (2 ^ s) u (λ w x. step_open part size (4 * sx + w * size) (4 * sy + v * size) x))
 
 units_open : (part : ListKind) (t : BlockTable) → Open (units_step part t)
 units_open part t =
@@ -61,7 +61,7 @@ no_decision block [] ones carries = refl
 no_decision block (d ∷ ds) ones carries =
     absurd (not_shut (begin block) (d ∷ ds) (led_begin block) (omega arith) (λ more. carries) ones)
 
-pub ones_are_refused : OnesAreRefused
+pub ones_are_refused : OnesInListAreRefused
 ones_are_refused part former block inv ones =
     elim (open_shut (units_step part former) block (units_open part former) ones) [
       | inl e ↦ inl e
@@ -72,12 +72,12 @@ ones_are_refused part former block inv ones =
     ]
 
 -- a split always needs a decision
-split_shut : (sy sx : ℕ) (t : BlockTable) (r : Reading) → front r.block 16 ≡ 65535 → read (split_step sy sx t) r ≡ Err cause.CodeWord
+split_shut : (sy sx : ℕ) (t : BlockTable) (r : Reading) → front r.block 16 ≡ 65535 → read_coded (split_step sy sx t) r ≡ Err cause.CodeWord
 unfolding split_step
 split_shut sy sx t r ones = rw (number_is_shut (22 ∷ 23 ∷ []) 24 r ones) refl
 
 -- steps whose first is refused are refused
-first_refused : (step : ℕ → Step) (n : ℕ) (t : BlockTable) (r : Reading) (e : Cause) → 1 ≤ n → read (step 0 t) r ≡ Err e → read (repeated step n t) r ≡ Err e
+first_refused : (step : ℕ → TableStep) (n : ℕ) (t : BlockTable) (r : Reading) (e : Cause) → 1 ≤ n → read_coded (step 0 t) r ≡ Err e → read_coded (repeated step n t) r ≡ Err e
 first_refused step n t r e some is = repeated_stops step 0 n t r t r e (omega arith) (repeated_none step t r) is
 
 pub ones_refuse_splits : OnesRefuseSplits

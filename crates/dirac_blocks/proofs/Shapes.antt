@@ -1,16 +1,19 @@
 -- Steps of a table, its sizes and its units.
-use Rattle.std.proofs.Common.{◌≡◌, ℕ, ◌+◌, ◌*◌, ◌^◌, ◌<◌, ◌≤◌, Result, refl, sym, ap, ◌∙◌, arith, subst, List, slice_index_or}
+use Rattle.std.proofs.Common.{◌≡◌, ℕ, ◌+◌, ◌*◌, ◌^◌, ◌<◌, ◌≤◌, Result, refl, sym, ap, ap₂, ◌∙◌, arith, subst, List, slice_index_or}
 use Rattle.std.proofs.lemmas.Nat.{mul-le}
 use Rattle.dirac_common.specs.declared.faults.Cause.{Cause}
-use Rattle.dirac_arith.specs.Coded.{read, repeated}
+use Rattle.dirac_arith.specs.Coded.{read_coded, repeated}
 use Rattle.dirac_arith.specs.Reading.{Reading}
-use Rattle.dirac_blocks.specs.Grammar.{Step}
-use Rattle.dirac_blocks.specs.Reached.{IsUnit, SameBlocks, SameShape}
+use Rattle.dirac_blocks.specs.declared.parts.ListKind.{ListKind}
+use Rattle.dirac_blocks.specs.Decisions.{UnitPart, superblock_part, unit_rows}
+use Rattle.dirac_blocks.specs.Grammar.{TableStep, superblock_step, unit_rows_step}
+use Rattle.dirac_blocks.specs.Reached.{IsFirstOfUnit, SameBlocks, SameShape, SameSize}
 use Rattle.dirac_block_table.specs.Tables.{BlockTable, split_at, unit_size}
+use Rattle.dirac_block_table.proofs.Units.{of_splits}
 
 -- steps by rows and columns, where sizes are the same
-pub repeated_sizes : (step : ℕ → ℕ → Step) {a b c d : ℕ} (t : BlockTable) (r : Reading) {y : Result (BlockTable × Reading) Cause} → a ≡ b → c ≡ d
-    → read (repeated (λ j. repeated (step j) a) c t) r ≡ y → read (repeated (λ j. repeated (step j) b) d t) r ≡ y
+pub repeated_sizes : (step : ℕ → ℕ → TableStep) {a b c d : ℕ} (t : BlockTable) (r : Reading) {y : Result (BlockTable × Reading) Cause} → a ≡ b → c ≡ d
+    → read_coded (repeated (λ j. repeated (step j) a) c t) r ≡ y → read_coded (repeated (λ j. repeated (step j) b) d t) r ≡ y
 repeated_sizes step t r p q is = rw (← p, ← q) is
 
 pub shape_refl : (t : BlockTable) → SameShape t t
@@ -18,6 +21,9 @@ shape_refl t = record { across = refl; down = refl; refs = refl; splits = refl }
 
 pub shape_join : (a b c : BlockTable) → SameShape a b → SameShape b c → SameShape a c
 shape_join a b c p q = record { across = q.across ∙ p.across; down = q.down ∙ p.down; refs = q.refs ∙ p.refs; splits = q.splits ∙ p.splits }
+
+pub size_join : (a b c : BlockTable) → SameSize a b → SameSize b c → SameSize a c
+size_join a b c p q = record { across = q.across ∙ p.across; down = q.down ∙ p.down; refs = q.refs ∙ p.refs }
 
 pub blocks_refl : (t : BlockTable) → SameBlocks t t
 blocks_refl t = record { across = refl; down = refl; refs = refl; blocks = refl }
@@ -30,7 +36,7 @@ split_same a b sx sy s =
     ap (λ (n : ℕ). slice_index_or b.splits (sy * n + sx) 0) s.across ∙ ap (λ (xs : List ℕ). slice_index_or xs (sy * a.across + sx) 0) s.splits
 
 -- units of one table are those of another of its shape
-pub unit_same : (a b : BlockTable) (size i j : ℕ) → SameShape a b → IsUnit a size i j → IsUnit b size i j
+pub unit_same : (a b : BlockTable) (size i j : ℕ) → SameShape a b → IsFirstOfUnit a size i j → IsFirstOfUnit b size i j
 unit_same a b size i j s k =
     let split = split_same a b k.sx k.sy s in
     record {
@@ -52,3 +58,47 @@ pub unit_within : (i n count size most : ℕ) → n < count → 1 ≤ size → i
 unit_within i n count size most less some all =
     let step : (n + 1) * size ≤ count * size = mul-le (n + 1) size count size (omega arith) (omega arith) in
     omega arith
+
+-- the units of a superblock fill it
+pub units_fill : (split : ℕ) → split ≤ 2 → 2 ^ split * unit_size split ≡ 4
+units_fill split h = of_splits (λ s. 2 ^ s * unit_size s ≡ 4) split h (omega arith) (omega arith) (omega arith)
+
+pub fill_of : (split size across : ℕ) → split ≤ 2 → size ≡ unit_size split → across ≡ 2 ^ split → across * size ≡ 4
+fill_of split size across h p q = ap₂ (λ (a b : ℕ). a * b) q p ∙ units_fill split h
+
+pub unit_of_superblock : (u : BlockTable) (sx sy k l : ℕ) → sx < u.across → sy < u.down → k < 2 ^ split_at u sx sy → l < 2 ^ split_at u sx sy
+    → (let size = unit_size (split_at u sx sy) in IsFirstOfUnit u size (4 * sx + k * size) (4 * sy + l * size))
+unit_of_superblock u sx sy k l hx hy hk hl =
+    record { sx = sx; sy = sy; u = k; v = l; across = hx; down = hy; is = refl; some = hk; few = hl; column = refl; row = refl }
+
+-- the same, in a table of that shape, where the split's numbers were computed
+pub unit_there : (t m : BlockTable) (sx sy split size across k l : ℕ) → SameShape t m → sx < t.across → sy < t.down → split ≡ split_at t sx sy → size ≡ unit_size split → across ≡ 2 ^ split
+    → k < across → l < across → IsFirstOfUnit m size (4 * sx + k * size) (4 * sy + l * size)
+unit_there t m sx sy split size across k l shape hx hy is p q hk hl =
+    let units : across ≡ 2 ^ split_at t sx sy = q ∙ ap (λ (n : ℕ). 2 ^ n) is in
+    let blocks : size ≡ unit_size (split_at t sx sy) = p ∙ ap (λ (n : ℕ). unit_size n) is in
+    let here = unit_of_superblock t sx sy k l hx hy (subst (λ (n : ℕ). k < n) units hk) (subst (λ (n : ℕ). l < n) units hl) in
+    unit_same t m size (4 * sx + k * size) (4 * sy + l * size) shape (subst (λ (n : ℕ). IsFirstOfUnit t n (4 * sx + k * n) (4 * sy + l * n)) (sym blocks) here)
+
+-- rows of units that are all rows of a superblock
+pub superblock_read : (part : ListKind) (t : BlockTable) (sx sy split size across n : ℕ) (r : Reading) (y : Result (BlockTable × Reading) Cause)
+    → split ≡ split_at t sx sy → size ≡ unit_size split → across ≡ 2 ^ split → n ≡ across
+    → read_coded (unit_rows_step part size across (4 * sx) (4 * sy) n t) r ≡ y → read_coded (superblock_step part sy sx t) r ≡ y
+unfolding superblock_step
+superblock_read part t sx sy split size across n r y is p q all found =
+    let s = split_at t sx sy in
+    let units : across ≡ 2 ^ s = q ∙ ap (λ (k : ℕ). 2 ^ k) is in
+    let blocks : size ≡ unit_size s = p ∙ ap (λ (k : ℕ). unit_size k) is in
+    let one = subst (λ (k : ℕ). read_coded (unit_rows_step part k across (4 * sx) (4 * sy) n t) r ≡ y) blocks found in
+    let two = subst (λ (k : ℕ). read_coded (unit_rows_step part (unit_size s) k (4 * sx) (4 * sy) n t) r ≡ y) units one in
+    subst (λ (k : ℕ). read_coded (unit_rows_step part (unit_size s) (2 ^ s) (4 * sx) (4 * sy) k t) r ≡ y) (all ∙ units) two
+
+pub superblock_told : (part : UnitPart) (t : BlockTable) (sx sy split size across n : ℕ) → split ≡ split_at t sx sy → size ≡ unit_size split → across ≡ 2 ^ split → n ≡ across
+    → unit_rows part size across (4 * sx) (4 * sy) n ≡ superblock_part part t sx sy
+superblock_told part t sx sy split size across n is p q all =
+    let s = split_at t sx sy in
+    let units : across ≡ 2 ^ s = q ∙ ap (λ (k : ℕ). 2 ^ k) is in
+    let blocks : size ≡ unit_size s = p ∙ ap (λ (k : ℕ). unit_size k) is in
+    ap (λ (k : ℕ). unit_rows part k across (4 * sx) (4 * sy) n) blocks
+    ∙ ap (λ (k : ℕ). unit_rows part (unit_size s) k (4 * sx) (4 * sy) n) units
+    ∙ ap (λ (k : ℕ). unit_rows part (unit_size s) (2 ^ s) (4 * sx) (4 * sy) k) (all ∙ units)

@@ -27,12 +27,12 @@ use Rattle.dirac_block_table.specs.declared.reference.Reference.{Reference}
 use Rattle.dirac_block_table.specs.declared.reference.Reference.TheVariants as references
 use Rattle.dirac_blocks.specs.Carried.{ReadsTo}
 use Rattle.dirac_blocks.specs.Decisions.{left_of, above_of, corner_of, predicted_split, least_numbers, split_rows, unit_decisions, second_lists, block_decisions}
-use Rattle.dirac_blocks.specs.Grammar.{Step, empty_table, listed, table_from, splits_step, units_step, vectors_listed, second_listed, dcs_listed, values_listed, lists_of, blocks}
+use Rattle.dirac_blocks.specs.Grammar.{TableStep, empty_table, list_over, table_from, splits_step, units_step, vectors_listed, second_listed, dcs_listed, values_listed, lists_of, blocks}
 use Rattle.dirac_blocks.specs.Parts.{part_at}
 use Rattle.dirac_arith.specs.Coded as coded
 use Rattle.dirac_arith.specs.Reading.{Reading}
-use Rattle.dirac_block_table.specs.Tables.{BlockTable, IsBlock, IsBlockTable, IsSize, split_at, grey, no_vector}
-use Rattle.dirac_blocks.specs.Written.{with_block, with_lists, AreShort}
+use Rattle.dirac_block_table.specs.Tables.{BlockTable, IsBlock, IsBlockTable, IsTableSize, split_at, grey, no_vector}
+use Rattle.dirac_blocks.specs.Written.{with_block, with_lists, ListsHaveShortBlocks}
 use Rattle.dirac_blocks.proofs.Appended.{lists_append}
 use Rattle.dirac_blocks.proofs.InContexts.{in_split_rows}
 use Rattle.dirac_blocks.proofs.Nearby.{OfSome, left_holds, above_holds, corner_holds, grey_lawful}
@@ -43,9 +43,9 @@ four_parts : (a b c d : List Bool) → ((a ++ b) ++ c) ++ d ≡ a ++ (b ++ (c ++
 four_parts a b c d = simp append_assoc
 
 -- a list that is read from its block is spelled by the block behind its length
-list_spelled : (step : Step) (t u : BlockTable) (ds : List Decision) (old : List Bool) → ReadsTo step t (flush ds) u → length (flush ds) + 1 < 2 ^ 39
-    → SpelledBehind (listed step t) u old (with_block (flush ds) old)
-unfolding listed
+list_spelled : (step : TableStep) (t u : BlockTable) (ds : List Decision) (old : List Bool) → ReadsTo step t (flush ds) u → length (flush ds) + 1 < 2 ^ 39
+    → SpelledBehind (list_over step t) u old (with_block (flush ds) old)
+unfolding list_over
 list_spelled step t u ds old read short =
     let block = flush ds in
     let first = uint (length block) in
@@ -53,7 +53,7 @@ list_spelled step t u ds old read short =
     let k1 = length old + length first in
     let k2 = k1 + length (gap before) in
     let k3 = k2 + length (bits_of block) in
-    let last : Spells (table_from (k2 / 8) (coded.read (step t) (begin block))) u k3 [] =
+    let last : Spells (table_from (k2 / 8) (coded.read_coded (step t) (begin block))) u k3 [] =
     subst (λ (r : Result (BlockTable × Reading) Cause). Spells (table_from (k2 / 8) r) u k3 []) (sym read.1) (refl, refl) in
     record {
       bits = first ++ (gap before ++ bits_of block);
@@ -93,7 +93,7 @@ pub least_sum : (s p : ℕ) → s ≤ 2 → p ≤ 2 → ((s + 3 - p) % 3 + p) % 
 least_sum s p h k = omega arith
 
 -- a table of which nothing is read is lawful
-pub empty_lawful : (across down refs : ℕ) → IsSize across down refs → IsBlockTable (empty_table across down refs)
+pub empty_lawful : (across down refs : ℕ) → IsTableSize across down refs → IsBlockTable (empty_table across down refs)
 empty_lawful across down refs size =
     let t = empty_table across down refs in
     let blocks_len = length-replicate (4 * down * (4 * across)) grey in
@@ -171,11 +171,11 @@ vectors_spelled t k f old inv s short short' =
     let mid = with_block (flush (block_of t (parts.Across k))) old in
     let two = list_spelled (units_step (parts.Down k)) (by g t) (by (next_stage (parts.Down k) g) t) (block_of t (parts.Down k)) mid
     (next_read (parts.Down k) t g inv (stage_next (parts.Across k) t f s)) short' in
-    behind_then (listed (units_step (parts.Across k)) (by f t)) (λ u. listed (units_step (parts.Down k)) u) (by g t) (by (next_stage (parts.Down k) g) t) old mid _ one two
+    behind_then (list_over (units_step (parts.Across k)) (by f t)) (λ u. list_over (units_step (parts.Down k)) u) (by g t) (by (next_stage (parts.Down k) g) t) old mid _ one two
 
 -- the DC values
 dcs_spelled : (t : BlockTable) (f : Block → Block) (old : List Bool) → IsBlockTable t → IsStage t f
-    → AreShort (block_of t (parts.Dc components.Y) ∷ block_of t (parts.Dc components.U) ∷ block_of t (parts.Dc components.V) ∷ [])
+    → ListsHaveShortBlocks (block_of t (parts.Dc components.Y) ∷ block_of t (parts.Dc components.U) ∷ block_of t (parts.Dc components.V) ∷ [])
     → SpelledBehind (dcs_listed (by f t)) (by (next_stage (parts.Dc components.V) (next_stage (parts.Dc components.U) (next_stage (parts.Dc components.Y) f))) t) old
     (with_lists (block_of t (parts.Dc components.Y) ∷ block_of t (parts.Dc components.U) ∷ block_of t (parts.Dc components.V) ∷ []) old)
 unfolding dcs_listed
@@ -194,8 +194,8 @@ dcs_spelled t f old inv s short =
     let one = list_spelled (units_step y) (by f t) (by f1 t) (block_of t y) old (next_read y t f inv s) short.0 in
     let two = list_spelled (units_step u) (by f1 t) (by f2 t) (block_of t u) b1 (next_read u t f1 inv s1) short.1.0 in
     let three = list_spelled (units_step v) (by f2 t) (by f3 t) (block_of t v) b2 (next_read v t f2 inv s2) short.1.1.0 in
-    let rest = behind_then (listed (units_step u) (by f1 t)) (λ w. listed (units_step v) w) (by f2 t) (by f3 t) b1 b2 b3 two three in
-    behind_then (listed (units_step y) (by f t)) (λ w. listed (units_step u) w >>= (λ x. listed (units_step v) x)) (by f1 t) (by f3 t) old b1 b3 one rest
+    let rest = behind_then (list_over (units_step u) (by f1 t)) (λ w. list_over (units_step v) w) (by f2 t) (by f3 t) b1 b2 b3 two three in
+    behind_then (list_over (units_step y) (by f t)) (λ w. list_over (units_step u) w >>= (λ x. list_over (units_step v) x)) (by f1 t) (by f3 t) old b1 b3 one rest
 
 third_stage : (t : BlockTable) → IsStage t stage3
 third_stage t = stage_next (parts.Down references.First) t stage2 (stage_next (parts.Across references.First) t stage1 (first_stage t))
@@ -207,11 +207,11 @@ fifth_stage t = stage_next (parts.Down references.Second) t stage4 (stage_next (
 abbrev seconds : BlockTable → List (List Decision)
 seconds t = block_of t (parts.Across references.Second) ∷ block_of t (parts.Down references.Second) ∷ []
 
-two_spelled : (t : BlockTable) (old : List Bool) → IsBlockTable t → t.refs ≡ 2 → AreShort (second_lists t)
+two_spelled : (t : BlockTable) (old : List Bool) → IsBlockTable t → t.refs ≡ 2 → ListsHaveShortBlocks (second_lists t)
     → SpelledBehind (second_listed (by stage3 t)) (by stage5 t) old (with_lists (second_lists t) old)
 unfolding second_listed
 two_spelled t old inv two short =
-    let P : Bool → Type 0 = λ b. AreShort (if b then seconds t else [])
+    let P : Bool → Type 0 = λ b. ListsHaveShortBlocks (if b then seconds t else [])
     → SpelledBehind (if b then vectors_listed references.Second (by stage3 t) else done (by stage3 t)) (by stage5 t) old (with_lists (if b then seconds t else []) old) in
     subst P (sym (eq-eqb t.refs 2 two)) (λ h. vectors_spelled t references.Second stage3 old inv (third_stage t) h.0 h.1.0) short
 
@@ -239,7 +239,7 @@ by_end f t inv same =
     (ext_get_or grey (map f t.blocks) t.blocks len
     (λ k l. let inside : k < length t.blocks = omega arith in get_or-map f t.blocks k grey grey inside ∙ same (get_or t.blocks k grey) (inv.blocks k grey inside)))
 
-parts_short : (xs ys : List (List Decision)) → AreShort (xs ++ ys) → AreShort xs × AreShort ys
+parts_short : (xs ys : List (List Decision)) → ListsHaveShortBlocks (xs ++ ys) → ListsHaveShortBlocks xs × ListsHaveShortBlocks ys
 parts_short [] ys h = (tt, h)
 parts_short (x ∷ xs) ys h = let rest = parts_short xs ys h.1 in ((h.0, rest.0), rest.1)
 
@@ -247,7 +247,7 @@ abbrev dc_lists : BlockTable → List (List Decision)
 dc_lists t = block_of t (parts.Dc components.Y) ∷ block_of t (parts.Dc components.U) ∷ block_of t (parts.Dc components.V) ∷ []
 
 -- the lists behind the vectors of the first reference
-rest_spelled : (t : BlockTable) (old : List Bool) → IsBlockTable t → AreShort (second_lists t ++ dc_lists t)
+rest_spelled : (t : BlockTable) (old : List Bool) → IsBlockTable t → ListsHaveShortBlocks (second_lists t ++ dc_lists t)
     → SpelledBehind (second_listed (by stage3 t) >>= (λ u. dcs_listed u)) t old (with_lists (second_lists t ++ dc_lists t) old)
 rest_spelled t old inv short =
     let parts' = parts_short (second_lists t) (dc_lists t) short in
@@ -271,7 +271,7 @@ rest_spelled t old inv short =
     ])
 
 -- all lists
-lists_spelled : (t : BlockTable) (old : List Bool) → IsBlockTable t → AreShort (block_decisions t (least_numbers t))
+lists_spelled : (t : BlockTable) (old : List Bool) → IsBlockTable t → ListsHaveShortBlocks (block_decisions t (least_numbers t))
     → SpelledBehind (lists_of (empty_table t.across t.down t.refs)) t old (with_lists (block_decisions t (least_numbers t)) old)
 unfolding lists_of values_listed
 lists_spelled t old inv short =
@@ -288,13 +288,13 @@ lists_spelled t old inv short =
     let four = rest_spelled t b4 inv short.1.1.1.1 in
     let rest3 : BlockTable → Syntax BlockTable = λ u. second_listed u >>= (λ v. dcs_listed v) in
     let rest2 : BlockTable → Syntax BlockTable = λ u. vectors_listed references.First u >>= rest3 in
-    let rest1 : BlockTable → Syntax BlockTable = λ u. listed (units_step m) u >>= rest2 in
+    let rest1 : BlockTable → Syntax BlockTable = λ u. list_over (units_step m) u >>= rest2 in
     let behind3 = behind_then (vectors_listed references.First (by stage1 t)) rest3 (by stage3 t) t b2 b4 new three four in
-    let behind2 = behind_then (listed (units_step m) (by nothing_yet t)) rest2 (by stage1 t) t b1 b2 new two behind3 in
-    behind_then (listed splits_step t0) rest1 (by nothing_yet t) t old b1 new one behind2
+    let behind2 = behind_then (list_over (units_step m) (by nothing_yet t)) rest2 (by stage1 t) t b1 b2 new two behind3 in
+    behind_then (list_over splits_step t0) rest1 (by nothing_yet t) t old b1 new one behind2
 
 -- a table that is written is spelled
-pub table_spelled : (t : BlockTable) (old : List Bool) → IsBlockTable t → IsWhole old → AreShort (block_decisions t (least_numbers t))
+pub table_spelled : (t : BlockTable) (old : List Bool) → IsBlockTable t → IsWhole old → ListsHaveShortBlocks (block_decisions t (least_numbers t))
     → SpelledBehind (blocks t.across t.down t.refs) t old (with_lists (block_decisions t (least_numbers t)) old)
 unfolding blocks
 table_spelled t old inv whole short =
@@ -309,7 +309,7 @@ table_spelled t old inv whole short =
     }
 
 -- short lists one after the other
-pub short_append : (xs ys : List (List Decision)) → AreShort xs → AreShort ys → AreShort (xs ++ ys)
+pub short_append : (xs ys : List (List Decision)) → ListsHaveShortBlocks xs → ListsHaveShortBlocks ys → ListsHaveShortBlocks (xs ++ ys)
 short_append [] ys p q = q
 short_append (x ∷ xs) ys p q = (p.0, short_append xs ys p.1 q)
 
@@ -318,14 +318,14 @@ pub written_spelled : {T E : Type 0} (r : Result T E) (t : BlockTable) (old b1 b
     → b1 ≡ with_block (flush (split_rows t.across (least_numbers t) t.down)) old → length (flush (split_rows t.across (least_numbers t) t.down)) + 1 < 2 ^ 39
     → b2 ≡ with_block (flush (unit_decisions t (part_at parts.Modes t))) b1 → length (flush (unit_decisions t (part_at parts.Modes t))) + 1 < 2 ^ 39
     → (let first = unit_decisions t (part_at (parts.Across references.First) t) ∷ unit_decisions t (part_at (parts.Down references.First) t) ∷ [] in
-    (b3 ≡ with_lists first b2) × AreShort first)
-    → b4 ≡ with_lists (second_lists t) b3 → AreShort (second_lists t)
+    (b3 ≡ with_lists first b2) × ListsHaveShortBlocks first)
+    → b4 ≡ with_lists (second_lists t) b3 → ListsHaveShortBlocks (second_lists t)
     → (let dcs = unit_decisions t (part_at (parts.Dc components.Y) t) ∷ unit_decisions t (part_at (parts.Dc components.U) t) ∷ unit_decisions t (part_at (parts.Dc components.V) t) ∷ [] in
-    OnOk r (new ≡ with_lists dcs b4) → OnOk r (AreShort dcs) → OnOk r (SpelledBehind (blocks t.across t.down t.refs) t old new))
+    OnOk r (new ≡ with_lists dcs b4) → OnOk r (ListsHaveShortBlocks dcs) → OnOk r (SpelledBehind (blocks t.across t.down t.refs) t old new))
 written_spelled r t old b1 b2 b3 b4 new inv whole e1 s1 e2 s2 p3 e4 s4 exact short =
-    ok_both (new ≡ with_lists (dc_lists t) b4) (AreShort (dc_lists t)) (SpelledBehind (blocks t.across t.down t.refs) t old new)
+    ok_both (new ≡ with_lists (dc_lists t) b4) (ListsHaveShortBlocks (dc_lists t)) (SpelledBehind (blocks t.across t.down t.refs) t old new)
     (λ e s.
-    let lists : AreShort (block_decisions t (least_numbers t)) = (s1, (s2, (p3.1.0, (p3.1.1.0, short_append (second_lists t) (dc_lists t) s4 s)))) in
+    let lists : ListsHaveShortBlocks (block_decisions t (least_numbers t)) = (s1, (s2, (p3.1.0, (p3.1.1.0, short_append (second_lists t) (dc_lists t) s4 s)))) in
     let first : List Bool → List Bool = λ l. with_lists (unit_decisions t (part_at (parts.Across references.First) t) ∷ unit_decisions t (part_at (parts.Down references.First) t) ∷ []) l in
     let bits : new ≡ with_lists (block_decisions t (least_numbers t)) old =
     e

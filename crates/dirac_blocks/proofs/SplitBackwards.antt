@@ -3,17 +3,17 @@ use Rattle.std.proofs.Common.{◌≡◌, ℕ, zero, suc, ◌+◌, ◌-◌, ◌%�
 use Rattle.std.specs.Prelude.{if◌then◌else◌, ◌==◌}
 use Rattle.std.proofs.lemmas.Bool.{cases_eq, eq-eqb, ne_eqb}
 use Rattle.dirac_common.specs.declared.faults.Cause.{Cause}
-use Rattle.dirac_arith.specs.Coded.{read, repeated}
+use Rattle.dirac_arith.specs.Coded.{read_coded, repeated}
 use Rattle.dirac_arith.specs.Deciding.{begin, number_read}
 use Rattle.dirac_arith.specs.Interval.{Decision}
-use Rattle.dirac_arith.specs.Reading.{Reading, Reads}
+use Rattle.dirac_arith.specs.Reading.{Reading, DecisionsAreRead}
 use Rattle.dirac_arith.specs.Spelling.{spelling}
 use Rattle.dirac_arith.proofs.Carrieds.{IsLed}
 use Rattle.dirac_arith.proofs.CodedValues.{then_is_read}
 use Rattle.dirac_arith.proofs.Led.{led_begin, led_more, reads_nothing, reads_carried, number_leads}
 use Rattle.dirac_arith.proofs.Spellings.{reads_more}
 use Rattle.dirac_blocks.specs.Decisions.{Numbers, predicted_split, split_row, split_rows}
-use Rattle.dirac_blocks.specs.Grammar.{Step, with_split, split_step}
+use Rattle.dirac_blocks.specs.Grammar.{TableStep, with_split, split_step}
 use Rattle.dirac_blocks.specs.Laws.{ReadSplitsAreCarried}
 use Rattle.dirac_blocks.specs.Reached.{AllGrey, SameBlocks}
 use Rattle.dirac_block_table.specs.Tables.{BlockTable, IsBlockTable, split_at}
@@ -58,6 +58,9 @@ value_holds P f n v k few here there =
 abbrev pub IsBeside : ℕ → ℕ → ℕ → ℕ → Type 0
 IsBeside sy n x y = (n ≤ x) ⊎ ((y < sy) ⊎ (sy < y))
 
+at_most_2 : (k : ℕ) → k % 3 ≤ 2
+at_most_2 k = omega arith
+
 -- the first n splits of row sy were read
 pub record RowCame (m : BlockTable) (r : Reading) (t : BlockTable) (s : Reading) (sy n : ℕ) : Type 0 where
   pub lawful : IsBlockTable t
@@ -67,10 +70,10 @@ pub record RowCame (m : BlockTable) (r : Reading) (t : BlockTable) (s : Reading)
   pub numbers : ℕ → ℕ
   pub small : (k : ℕ) → k < n → numbers k < 2 ^ 39 - 1
   pub are : (u : BlockTable) → SameSplits t u n (sy + 1) → (k : ℕ) → k < n → (numbers k + predicted_split u k sy) % 3 ≡ split_at u k sy
-  pub reads : Reads r (split_row (λ y. numbers) sy n) s
+  pub reads : DecisionsAreRead r (split_row (λ y. numbers) sy n) s
 
 pub row_came : (m t : BlockTable) (sy n : ℕ) (r s : Reading) → IsBlockTable m → AllGrey m.blocks → n ≤ m.across → sy < m.down → IsLed r
-    → read (repeated (split_step sy) n m) r ≡ Ok (t, s) → RowCame m r t s sy n
+    → read_coded (repeated (split_step sy) n m) r ≡ Ok (t, s) → RowCame m r t s sy n
 unfolding split_row repeated split_step
 row_came m t sy zero r s inv grey few hy led e =
     let here : RowCame m r m r sy 0 = record {
@@ -85,7 +88,7 @@ row_came m t sy zero r s inv grey few hy led e =
     } in
     moved_to (λ (x : BlockTable) (y : Reading). RowCame m r x y sy 0) e here
 row_came m t sy (suc n) r s inv grey few hy led e =
-    let q = passed (read (repeated (split_step sy) n m) r) (λ x. read (split_step sy n x.0) x.1) (t, s) (sym (then_is_read (repeated (split_step sy) n m) (split_step sy n) r) ∙ e) in
+    let q = passed (read_coded (repeated (split_step sy) n m) r) (λ x. read_coded (split_step sy n x.0) x.1) (t, s) (sym (then_is_read (repeated (split_step sy) n m) (split_step sy n) r) ∙ e) in
     let mid = q.value.0 in
     let g = row_came m mid sy n r q.value.1 inv grey (omega arith) hy led q.first in
     let across = g.rest.across in
@@ -101,11 +104,9 @@ row_came m t sy (suc n) r s inv grey few hy led e =
     let row = split_row (λ y. numbers) sy n in
     let same_row : split_row (λ y. g.numbers) sy n ≡ row = split_row_same (λ y. g.numbers) (λ y. numbers) sy sy n (λ k l. sym (value_there g.numbers n number k l)) in
     let same_last : spelling (22 ∷ 23 ∷ []) 24 number ≡ spelling (22 ∷ 23 ∷ []) 24 (numbers n) = ap (λ (w : ℕ). spelling (22 ∷ 23 ∷ []) 24 w) (sym (value_here g.numbers n number n refl)) in
-    let inside = split_inside mid n sy g.lawful (omega arith) (omega arith) in
-    let told : split_at new n sy ≡ v = split_here mid n sy v (omega arith) inside in
     let beside : (x y : ℕ) → x < m.across → ((x ≡ n → y ≡ sy → ⊥)) → split_at new x y ≡ split_at mid x y = λ x y p o. split_there mid n sy v x y (omega arith) (omega arith) o in
     let here : RowCame m r new last.value.1 sy (suc n) = record {
-      lawful = split_lawful mid n sy v g.lawful grey' (omega arith);
+      lawful = split_lawful mid n sy v g.lawful grey' (at_most_2 (number + predicted_split mid n sy));
       rest = blocks_join m mid new g.rest (record { across = refl; down = refl; refs = refl; blocks = refl });
       outside = λ x y p o. beside x y p (never sy n x y o) ∙ g.outside x y p (wider sy n x y o);
       led = led_more q.value.1 last.value.1 (spelling (22 ∷ 23 ∷ []) 24 number) g.led leads.1;
@@ -115,8 +116,8 @@ row_came m t sy (suc n) r s inv grey few hy led e =
           let before : SameSplits mid u n (sy + 1) = record { each = λ x y a b. sym (beside x y (omega arith) (λ c d. omega arith)) ∙ w.each x y (omega arith) b } in
           let over : SameSplits mid u (n + 1) sy = record { each = λ x y a b. sym (beside x y (omega arith) (λ c d. omega arith)) ∙ w.each x y (omega arith) (omega arith) } in
           value_holds (λ j v. (v + predicted_split u j sy) % 3 ≡ split_at u j sy) g.numbers n number k (omega arith)
-          (ap (λ (b : ℕ). (number + b) % 3) (sym (split_near mid u n sy before over)) ∙ sym told ∙ w.each n sy (omega arith) (omega arith)) (λ p. g.are u before k p);
-      reads = subst (λ (ds : List Decision). Reads r ds last.value.1)
+          (ap (λ (b : ℕ). (number + b) % 3) (sym (split_near mid u n sy before over)) ∙ sym (split_here mid n sy v (omega arith) (split_inside mid n sy g.lawful (omega arith) (omega arith))) ∙ w.each n sy (omega arith) (omega arith)) (λ p. g.are u before k p);
+      reads = subst (λ (ds : List Decision). DecisionsAreRead r ds last.value.1)
           (ap₂ (λ (a b : List Decision). a ++ b) same_row same_last)
           (reads_more r q.value.1 last.value.1 (split_row (λ y. g.numbers) sy n) (spelling (22 ∷ 23 ∷ []) 24 number) g.reads leads.1);
     } in
@@ -139,10 +140,10 @@ pub record RowsCame (m : BlockTable) (r : Reading) (t : BlockTable) (s : Reading
   pub numbers : Numbers
   pub small : (x y : ℕ) → x < m.across → y < n → numbers y x < 2 ^ 39 - 1
   pub are : (u : BlockTable) → SameSplits t u m.across n → (x y : ℕ) → x < m.across → y < n → (numbers y x + predicted_split u x y) % 3 ≡ split_at u x y
-  pub reads : Reads r (split_rows m.across numbers n) s
+  pub reads : DecisionsAreRead r (split_rows m.across numbers n) s
 
 pub rows_came : (m t : BlockTable) (n : ℕ) (r s : Reading) → IsBlockTable m → AllGrey m.blocks → n ≤ m.down → IsLed r
-    → read (repeated (λ sy. repeated (split_step sy) m.across) n m) r ≡ Ok (t, s) → RowsCame m r t s n
+    → read_coded (repeated (λ sy. repeated (split_step sy) m.across) n m) r ≡ Ok (t, s) → RowsCame m r t s n
 unfolding split_rows repeated
 rows_came m t zero r s inv grey few led e =
     let here : RowsCame m r m r 0 = record {
@@ -156,8 +157,8 @@ rows_came m t zero r s inv grey few led e =
     } in
     moved_to (λ (x : BlockTable) (y : Reading). RowsCame m r x y 0) e here
 rows_came m t (suc n) r s inv grey few led e =
-    let step : ℕ → Step = λ sy. repeated (split_step sy) m.across in
-    let q = passed (read (repeated step n m) r) (λ x. read (step n x.0) x.1) (t, s) (sym (then_is_read (repeated step n m) (step n) r) ∙ e) in
+    let step : ℕ → TableStep = λ sy. repeated (split_step sy) m.across in
+    let q = passed (read_coded (repeated step n m) r) (λ x. read_coded (step n x.0) x.1) (t, s) (sym (then_is_read (repeated step n m) (step n) r) ∙ e) in
     let mid = q.value.0 in
     let g = rows_came m mid n r q.value.1 inv grey (omega arith) led q.first in
     let grey' : AllGrey mid.blocks = subst AllGrey (sym g.rest.blocks) grey in
@@ -179,7 +180,7 @@ rows_came m t (suc n) r s inv grey few led e =
           value_holds (λ j f. (f x + predicted_split u x j) % 3 ≡ split_at u x j) g.numbers n h.numbers y (omega arith)
           (h.are u (record { each = λ a b c d. w.each a b c (omega arith) }) x p)
           (λ q. g.are u (record { each = λ a b c d. sym (h.outside a b (omega arith) (inr (inl d))) ∙ w.each a b c (omega arith) }) x y p q);
-      reads = subst (λ (ds : List Decision). Reads r ds s) (ap₂ (λ (a b : List Decision). a ++ b) same_rows same_last)
+      reads = subst (λ (ds : List Decision). DecisionsAreRead r ds s) (ap₂ (λ (a b : List Decision). a ++ b) same_rows same_last)
           (reads_more r q.value.1 s (split_rows m.across g.numbers n) (split_row (λ y. h.numbers) n m.across) g.reads h.reads);
     }
 
@@ -196,5 +197,5 @@ read_splits_are_carried former t block inv grey h =
       numbers = g.numbers;
       are = λ sx sy p q. g.are t (record { each = λ a b c d. refl }) sx sy (omega arith) (omega arith);
       small = λ sx sy p q. g.small sx sy (omega arith) (omega arith);
-      carried = reads_carried block (split_rows t.across g.numbers t.down) h.0 (subst (λ (ds : List Decision). Reads (begin block) ds h.0) lists g.reads);
+      carried = reads_carried block (split_rows t.across g.numbers t.down) h.0 (subst (λ (ds : List Decision). DecisionsAreRead (begin block) ds h.0) lists g.reads);
     }

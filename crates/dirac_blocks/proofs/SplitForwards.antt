@@ -4,15 +4,15 @@ use Rattle.std.proofs.lemmas.Bool.{cases_eq}
 use Rattle.std.proofs.lemmas.List.{get_or-set_same, get_or-set_other}
 use Rattle.std.proofs.lemmas.Nat.{mul-add-lt, same_from_place}
 use Rattle.dirac_common.specs.declared.faults.Cause.{Cause}
-use Rattle.dirac_arith.specs.Coded.{read, repeated}
+use Rattle.dirac_arith.specs.Coded.{read_coded, repeated}
 use Rattle.dirac_arith.specs.Deciding.{begin, after_all}
-use Rattle.dirac_arith.specs.Reading.{Reading, Reads}
+use Rattle.dirac_arith.specs.Reading.{Reading, DecisionsAreRead}
 use Rattle.dirac_arith.specs.Spelling.{spelling}
 use Rattle.dirac_arith.proofs.Carrieds.{IsLed}
 use Rattle.dirac_arith.proofs.Led.{led_begin, led_more, reads_parted, carried_reads, number_led}
 use Rattle.dirac_vectors.specs.Predictions.{split_of}
 use Rattle.dirac_blocks.specs.Decisions.{Numbers, AreSplitNumbers, predicted_split, split_row, split_rows}
-use Rattle.dirac_blocks.specs.Grammar.{Step, with_split, split_step, splits_step}
+use Rattle.dirac_blocks.specs.Grammar.{TableStep, with_split, split_step, splits_step}
 use Rattle.dirac_blocks.specs.Laws.{CarriedSplitsAreRead}
 use Rattle.dirac_blocks.specs.Reached.{SameBlocks}
 use Rattle.dirac_block_table.specs.Tables.{BlockTable, IsBlockTable, split_at}
@@ -31,7 +31,7 @@ pub record SplitsToward (m u : BlockTable) : Type 0 where
   pub len : length m.splits ≡ u.down * u.across
 
 -- a step leads toward the finished table, and fills a rectangle
-abbrev pub SplitsGo : BlockTable → Step → BlockTable → Reading → Reading → ℕ → ℕ → ℕ → ℕ → Type 0
+abbrev pub SplitsGo : BlockTable → TableStep → BlockTable → Reading → Reading → ℕ → ℕ → ℕ → ℕ → Type 0
 SplitsGo u step m r s left right top bottom = Goes (λ t. SplitsToward t u) split_at u.across u step m r s left right top bottom
 
 -- predictions read splits that are the same
@@ -54,7 +54,7 @@ split_there m sx sy v x y inside p not =
 
 split_goes : (u m : BlockTable) (sx sy n : ℕ) (r s : Reading) → SplitsToward m u → sx < u.across → sy < u.down
     → (n + predicted_split u sx sy) % 3 ≡ split_at u sx sy → n < 2 ^ 39 - 1
-    → SameSplits m u sx (sy + 1) → SameSplits m u (sx + 1) sy → IsLed r → Reads r (spelling (22 ∷ 23 ∷ []) 24 n) s
+    → SameSplits m u sx (sy + 1) → SameSplits m u (sx + 1) sy → IsLed r → DecisionsAreRead r (spelling (22 ∷ 23 ∷ []) 24 n) s
     → SplitsGo u (split_step sy sx) m r s sx (sx + 1) sy (sy + 1)
 unfolding split_step
 split_goes u m sx sy n r s toward hx hy sum fits before over led reads =
@@ -91,7 +91,7 @@ pub record AreNumbers (u : BlockTable) (numbers : Numbers) : Type 0 where
 
 -- n superblocks of a row
 pub splits_go : (u m : BlockTable) (numbers : Numbers) (sy n : ℕ) (r s : Reading) → SplitsToward m u → AreNumbers u numbers → n ≤ u.across → sy < u.down
-    → SameSplits m u u.across sy → IsLed r → Reads r (split_row numbers sy n) s
+    → SameSplits m u u.across sy → IsLed r → DecisionsAreRead r (split_row numbers sy n) s
     → SplitsGo u (λ x. repeated (split_step sy) n x) m r s 0 n sy (sy + 1)
 unfolding split_row repeated
 splits_go u m numbers sy zero r s toward all few hy over led reads =
@@ -107,7 +107,7 @@ splits_go u m numbers sy (suc n) r s toward all few hy over led reads =
 
 -- n rows of superblocks
 pub split_rows_go : (u m : BlockTable) (numbers : Numbers) (n : ℕ) (r s : Reading) → SplitsToward m u → AreNumbers u numbers → n ≤ u.down
-    → IsLed r → Reads r (split_rows u.across numbers n) s
+    → IsLed r → DecisionsAreRead r (split_rows u.across numbers n) s
     → SplitsGo u (λ x. repeated (λ sy. repeated (split_step sy) u.across) n x) m r s 0 u.across 0 n
 unfolding split_rows repeated
 split_rows_go u m numbers zero r s toward all few led reads =
@@ -139,6 +139,6 @@ carried_splits_are_read former t block inv h =
     let g = split_rows_go t former h.numbers t.down (begin block) s toward (record { are = h.are; small = h.small }) (omega arith) (led_begin block)
     (carried_reads block (split_rows t.across h.numbers t.down) h.carried) in
     let one : g.table ≡ t = one_split_table g.table t h.lawful g.toward (λ x y p q. g.inside x y (omega arith) p (omega arith) q) in
-    let at_across : read (repeated (λ sy. repeated (split_step sy) former.across) former.down former) (begin block) ≡ Ok (g.table, s) =
+    let at_across : read_coded (repeated (λ sy. repeated (split_step sy) former.across) former.down former) (begin block) ≡ Ok (g.table, s) =
     repeated_sizes split_step former (begin block) rest.across rest.down g.is in
-    (s, subst (λ (x : BlockTable). read (splits_step former) (begin block) ≡ Ok (x, s)) one at_across)
+    (s, subst (λ (x : BlockTable). read_coded (splits_step former) (begin block) ≡ Ok (x, s)) one at_across)

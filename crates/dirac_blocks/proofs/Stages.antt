@@ -16,11 +16,11 @@ use Rattle.dirac_common.specs.declared.formats.Component.TheVariants as componen
 use Rattle.dirac_blocks.specs.declared.parts.ListKind.{ListKind}
 use Rattle.dirac_blocks.specs.declared.parts.ListKind.TheVariants as parts
 use Rattle.dirac_block_table.specs.declared.reference.Reference.TheVariants as references
-use Rattle.dirac_blocks.specs.Carried.{with_part, ReadsTo}
+use Rattle.dirac_blocks.specs.Carried.{with_list_part, ReadsTo}
 use Rattle.dirac_blocks.specs.Decisions.{left_of, above_of, corner_of, predicted, counted, differ, less_prediction, ref1_at, ref2_at, unit_decisions}
 use Rattle.dirac_blocks.specs.Grammar.{units_step}
 use Rattle.dirac_blocks.specs.Parts.{vector_at, dc_at, part_at}
-use Rattle.dirac_block_table.specs.Tables.{BlockTable, IsBlock, IsBlockTable, block_at, grey, split_at, first_of}
+use Rattle.dirac_block_table.specs.Tables.{BlockTable, IsBlock, IsBlockTable, block_at, grey, split_at, first_in_unit}
 use Rattle.dirac_block_table.proofs.Fills.{split_few}
 use Rattle.dirac_blocks.proofs.ForwardLoops.{carried_is_read}
 use Rattle.dirac_blocks.proofs.InContexts.{in_parts}
@@ -66,7 +66,7 @@ by_lawful f t inv lawful =
           let q' = first_below s j two q in
           by_at f t (4 * sx + i) (4 * sy + j) (place_inside t (4 * sx + i) (4 * sy + j) inv (omega arith) (omega arith))
           ∙ ap f (inv.units sx sy i j hx hy p q)
-          ∙ sym (by_at f t (4 * sx + first_of s i) (4 * sy + first_of s j) (place_inside t (4 * sx + first_of s i) (4 * sy + first_of s j) inv (omega arith) (omega arith)));
+          ∙ sym (by_at f t (4 * sx + first_in_unit s i) (4 * sy + first_in_unit s j) (place_inside t (4 * sx + first_in_unit s i) (4 * sy + first_in_unit s j) inv (omega arith) (omega arith)));
     }
 
 -- a stage, whose blocks use the references of the finished ones
@@ -76,21 +76,21 @@ pub record IsStage (t : BlockTable) (f : Block → Block) : Type 0 where
   pub lawful : (b : Block) → IsBlock t.refs b → IsBlock t.refs (f b)
 
 -- a lawful block, with a value of another that uses the same references
-told_lawful : (part : ListKind) (k : Tells part) (refs : ℕ) (b c : Block) → IsBlock refs b → IsBlock refs c → b.ref1 ≡ c.ref1 → b.ref2 ≡ c.ref2 → IsBlock refs (with_part part b c)
+told_lawful : (part : ListKind) (k : Tells part) (refs : ℕ) (b c : Block) → IsBlock refs b → IsBlock refs c → b.ref1 ≡ c.ref1 → b.ref2 ≡ c.ref2 → IsBlock refs (with_list_part part b c)
 told_lawful part k refs b c h g p q =
     elim (cases_Bool (k.has b)) [
       | inl has ↦ subst (IsBlock refs) (sym (k.is.with_is b c)) (k.is.lawful refs b (k.value c) h has (k.is.short refs c g))
       | inr lacks ↦ subst (IsBlock refs) (put_none part k refs b c h g (k.is.alike b c p q) lacks) h
     ]
 
-part_lawful : (part : ListKind) (refs : ℕ) (b c : Block) → IsBlock refs b → IsBlock refs c → b.ref1 ≡ c.ref1 → b.ref2 ≡ c.ref2 → IsBlock refs (with_part part b c)
+part_lawful : (part : ListKind) (refs : ℕ) (b c : Block) → IsBlock refs b → IsBlock refs c → b.ref1 ≡ c.ref1 → b.ref2 ≡ c.ref2 → IsBlock refs (with_list_part part b c)
 part_lawful parts.Modes refs b c h g p q = using_lawful refs c.ref1 c.ref2 g.second
 part_lawful (parts.Across k) refs b c h g p q = told_lawful (parts.Across k) (across_tells k) refs b c h g p q
 part_lawful (parts.Down k) refs b c h g p q = told_lawful (parts.Down k) (down_tells k) refs b c h g p q
 part_lawful (parts.Dc k) refs b c h g p q = told_lawful (parts.Dc k) (dc_tells k) refs b c h g p q
 
 -- where both use the same references the block with a part of the other does so
-refs_stay : (part : ListKind) (b c : Block) → b.ref1 ≡ c.ref1 → b.ref2 ≡ c.ref2 → ((with_part part b c).ref1 ≡ c.ref1) × ((with_part part b c).ref2 ≡ c.ref2)
+refs_stay : (part : ListKind) (b c : Block) → b.ref1 ≡ c.ref1 → b.ref2 ≡ c.ref2 → ((with_list_part part b c).ref1 ≡ c.ref1) × ((with_list_part part b c).ref2 ≡ c.ref2)
 refs_stay parts.Modes b c p q = (refl, refl)
 refs_stay (parts.Across references.First) b c p q = (p, q)
 refs_stay (parts.Across references.Second) b c p q = (p, q)
@@ -102,7 +102,7 @@ refs_stay (parts.Dc components.V) b c p q = (p, q)
 
 -- the next stage
 abbrev pub next_stage : ListKind → (Block → Block) → Block → Block
-next_stage part f b = with_part part (f b) b
+next_stage part f b = with_list_part part (f b) b
 
 pub stage_next : (part : ListKind) (t : BlockTable) (f : Block → Block) → IsStage t f → IsStage t (next_stage part f)
 stage_next part t f s =
@@ -194,12 +194,12 @@ stage_reads part t f inv lawful lawful' each =
         shape = record { across = refl; down = refl; refs = refl; splits = refl };
         blocks = λ i j p q.
             let place = place_inside t i j inv p q in
-            ap₂ (λ (b c : Block). with_part part b c) (by_at f t i j place) (by_at g t i j place) ∙ told part (f (block_at t i j)) (block_at t i j) ∙ sym (by_at g t i j place);
+            ap₂ (λ (b c : Block). with_list_part part b c) (by_at f t i j place) (by_at g t i j place) ∙ told part (f (block_at t i j)) (block_at t i j) ∙ sym (by_at g t i j place);
       };
       carried = subst (λ (es : List Decision). Carries (flush ds) es) (sym same) (flushed_is_carried ds (in_parts part t t.down));
     })
   where
-    told : (part : ListKind) (b c : Block) → with_part part b (with_part part b c) ≡ with_part part b c
+    told : (part : ListKind) (b c : Block) → with_list_part part b (with_list_part part b c) ≡ with_list_part part b c
     told parts.Modes b c = refl
     told (parts.Across references.First) b c = refl
     told (parts.Across references.Second) b c = refl

@@ -1,15 +1,17 @@
 -- What is read of a unit.
-use Rattle.std.proofs.Common.{arith, ◌≡◌, ℕ, ℤ, ◌-◌, ◌^◌, ◌<◌, ◌+ℤ◌, w32, w64, Bool, true, false, ◌||◌, not, List, Result, Ok, Err, refl, sym, ap, ◌∙◌, subst}
+use Rattle.std.proofs.Common.{arith, ◌≡◌, ℕ, ℤ, ◌-◌, ◌^◌, ◌<◌, ◌+ℤ◌, ◌-ℤ◌, w32, w64, Bool, true, false, ◌||◌, not, List, Option, Some, None, Result, Ok, Err, refl, sym, ap, ◌∙◌, subst}
 use Rattle.std.specs.Prelude.{if◌then◌else◌, nat_abs}
 use Rattle.std.specs.Int.RustNames.{FitsSigned}
 use Rattle.std.proofs.lemmas.Bool.{both_ways}
 use Rattle.std.proofs.lemmas.Int.{ints}
 use Rattle.dirac_common.specs.declared.faults.Cause.{Cause}
-use Rattle.dirac_arith.specs.Coded.{Coded, done, refuse, read}
+use Rattle.dirac_arith.specs.Coded.{Coded, done, refuse, read_coded}
 use Rattle.dirac_arith.specs.declared.contexts.TheConstants.{REFERENCE_1}
-use Rattle.dirac_arith.specs.Deciding.{decided, signed_read}
+use Rattle.dirac_arith.specs.Deciding.{decision_read, signed_read}
 use Rattle.dirac_arith.proofs.CodedValues.{then_is_read}
+use Rattle.dirac_arith.specs.Interval.{Interval, narrowed_by}
 use Rattle.dirac_arith.specs.Reading.{Reading}
+use Rattle.dirac_arith.specs.Spelling.{signed_spelling}
 use Rattle.dirac_vectors.specs.Neighbours.{IsShort}
 use Rattle.dirac_block_table.specs.declared.block.Block.{Block}
 use Rattle.dirac_common.specs.declared.formats.Component.{Component}
@@ -17,33 +19,33 @@ use Rattle.dirac_common.specs.declared.formats.Component.TheVariants as componen
 use Rattle.dirac_block_table.specs.declared.reference.Reference.{Reference}
 use Rattle.dirac_block_table.specs.declared.reference.Reference.TheVariants as references
 use Rattle.dirac_vectors.specs.Predictions.{mode_of}
-use Rattle.dirac_blocks.specs.Decisions.{differ, predicted, ref1_at}
-use Rattle.dirac_blocks.specs.Grammar.{block_using, coded_into, is_dc, is_short, mode_coded, second_use, uses, value_coded, with_across, with_dc, with_down}
+use Rattle.dirac_blocks.specs.Decisions.{differ, less_prediction, predicted, ref1_at}
+use Rattle.dirac_blocks.specs.Grammar.{block_using, coded_into, is_dc, has_16_bits, mode_coded, second_use, uses, value_coded, with_across, with_dc, with_down}
 use Rattle.dirac_block_table.specs.Tables.{BlockTable, IsBlock}
 
 -- a value that has 16 bits is found
 pub value_found : (cause : Cause) (follow : List ℕ) (bits sign : ℕ) (prediction number v : ℤ) (old new : Reading)
-    → signed_read follow bits sign old ≡ Ok (number, new) → v ≡ number +ℤ prediction → is_short (number +ℤ prediction) ≡ true
-    → read (value_coded cause follow bits sign prediction) old ≡ Ok (v, new)
+    → signed_read follow bits sign old ≡ Ok (number, new) → v ≡ number +ℤ prediction → has_16_bits (number +ℤ prediction) ≡ true
+    → read_coded (value_coded cause follow bits sign prediction) old ≡ Ok (v, new)
 value_found cause follow bits sign prediction number v old new here is short =
-    let P : Bool → Type 0 = λ b. read (if b then done (number +ℤ prediction) else refuse cause) new ≡ Ok (v, new) in
+    let P : Bool → Type 0 = λ b. read_coded (if b then done (number +ℤ prediction) else refuse cause) new ≡ Ok (v, new) in
     rw here (subst P (sym short) (ap (λ (w : ℤ). let x : Result (ℤ × Reading) Cause = Ok (w, new) in x) (sym is)))
 
 pub value_refused : (cause : Cause) (follow : List ℕ) (bits sign : ℕ) (prediction number : ℤ) (old new : Reading)
-    → signed_read follow bits sign old ≡ Ok (number, new) → is_short (number +ℤ prediction) ≡ false
-    → read (value_coded cause follow bits sign prediction) old ≡ Err cause
+    → signed_read follow bits sign old ≡ Ok (number, new) → has_16_bits (number +ℤ prediction) ≡ false
+    → read_coded (value_coded cause follow bits sign prediction) old ≡ Err cause
 value_refused cause follow bits sign prediction number old new here long =
-    let P : Bool → Type 0 = λ b. read (if b then done (number +ℤ prediction) else refuse cause) new ≡ Err cause in
+    let P : Bool → Type 0 = λ b. read_coded (if b then done (number +ℤ prediction) else refuse cause) new ≡ Err cause in
     rw here (subst P (sym long) refl)
 
 -- a block's value is read where the block has it
 pub into_found : (has : Bool) (b : Block) (put : Block → ℤ → Block) (value : Coded ℤ) (old new : Reading) (v : ℤ)
-    → has ≡ true → read value old ≡ Ok (v, new) → read (coded_into has b put value) old ≡ Ok (put b v, new)
+    → has ≡ true → read_coded value old ≡ Ok (v, new) → read_coded (coded_into has b put value) old ≡ Ok (put b v, new)
 into_found true b put value old new v is found = then_is_read value (λ w. done (put b w)) old ∙ rw found refl
 into_found false b put value old new v is found = absurd (both_ways false refl is)
 
 pub into_refused : (has : Bool) (b : Block) (put : Block → ℤ → Block) (value : Coded ℤ) (old : Reading) (e : Cause)
-    → has ≡ true → read value old ≡ Err e → read (coded_into has b put value) old ≡ Err e
+    → has ≡ true → read_coded value old ≡ Err e → read_coded (coded_into has b put value) old ≡ Err e
 into_refused true b put value old e is shut = then_is_read value (λ w. done (put b w)) old ∙ rw shut refl
 into_refused false b put value old e is shut = absurd (both_ways false refl is)
 
@@ -64,7 +66,7 @@ pub is_dc_from : (b : Block) → (b.ref1 || b.ref2) ≡ false → is_dc b ≡ tr
 is_dc_from b e = ap not e
 
 -- a block that hasn't the value stays
-pub into_none : (has : Bool) (b : Block) (put : Block → ℤ → Block) (value : Coded ℤ) (old : Reading) → has ≡ false → read (coded_into has b put value) old ≡ Ok (b, old)
+pub into_none : (has : Bool) (b : Block) (put : Block → ℤ → Block) (value : Coded ℤ) (old : Reading) → has ≡ false → read_coded (coded_into has b put value) old ≡ Ok (b, old)
 into_none true b put value old is = absurd (both_ways true is refl)
 into_none false b put value old is = refl
 
@@ -76,15 +78,29 @@ sum_fits a b small short = omega (arith, ints)
 pub short_fits : (v : ℤ) → IsShort v → FitsSigned w32 v
 short_fits v short = omega (arith, ints)
 
+-- the difference of two values of 16 bits has 64, and can be spelt
+pub difference_fits : (v p : ℤ) → IsShort v → IsShort p → FitsSigned w64 (v -ℤ p)
+difference_fits v p h k = omega (arith, ints)
+
+pub short_difference : (v p : ℤ) → IsShort v → IsShort p → nat_abs (v -ℤ p) < 2 ^ 39 - 1
+short_difference v p h k = let a = h.least in let b = h.most in let c = k.least in let d = k.most in omega (arith, ints)
+
+-- what is written of a value, where there is one
+pub none_told : (follow : List ℕ) (bits sign : ℕ) (p : ℤ) (o : Option ℤ) (s : Interval) → o ≡ None → s ≡ narrowed_by s (less_prediction follow bits sign p o)
+none_told follow bits sign p o s none = rw none refl
+
+pub some_told : (follow : List ℕ) (bits sign : ℕ) (p v : ℤ) (o : Option ℤ) → o ≡ Some v → signed_spelling follow bits sign (v -ℤ p) ≡ less_prediction follow bits sign p o
+some_told follow bits sign p v o some = rw some refl
+
 -- which references a unit uses
-pub mode_found : (t : BlockTable) (i j : ℕ) (bit second : Bool) (old mid new : Reading) → decided REFERENCE_1 old ≡ Ok (bit, mid) → read (second_use t i j) mid ≡ Ok (second, new)
-    → read (mode_coded t i j) old ≡ Ok (block_using (differ bit (predicted mode_of (ref1_at t) i j)) second, new)
+pub mode_found : (t : BlockTable) (i j : ℕ) (bit second : Bool) (old mid new : Reading) → decision_read REFERENCE_1 old ≡ Ok (bit, mid) → read_coded (second_use t i j) mid ≡ Ok (second, new)
+    → read_coded (mode_coded t i j) old ≡ Ok (block_using (differ bit (predicted mode_of (ref1_at t) i j)) second, new)
 mode_found t i j bit second old mid new one two =
     rw one (then_is_read (second_use t i j) (λ s. done (block_using (differ bit (predicted mode_of (ref1_at t) i j)) s)) mid ∙ rw two refl)
 
-pub mode_stops : (t : BlockTable) (i j : ℕ) (bit : Bool) (old mid : Reading) (e : Cause) → decided REFERENCE_1 old ≡ Ok (bit, mid) → read (second_use t i j) mid ≡ Err e → read (mode_coded t i j) old ≡ Err e
+pub mode_stops : (t : BlockTable) (i j : ℕ) (bit : Bool) (old mid : Reading) (e : Cause) → decision_read REFERENCE_1 old ≡ Ok (bit, mid) → read_coded (second_use t i j) mid ≡ Err e → read_coded (mode_coded t i j) old ≡ Err e
 mode_stops t i j bit old mid e one two =
     rw one (then_is_read (second_use t i j) (λ s. done (block_using (differ bit (predicted mode_of (ref1_at t) i j)) s)) mid ∙ rw two refl)
 
-pub mode_refused : (t : BlockTable) (i j : ℕ) (old : Reading) (e : Cause) → decided REFERENCE_1 old ≡ Err e → read (mode_coded t i j) old ≡ Err e
+pub mode_refused : (t : BlockTable) (i j : ℕ) (old : Reading) (e : Cause) → decision_read REFERENCE_1 old ≡ Err e → read_coded (mode_coded t i j) old ≡ Err e
 mode_refused t i j old e one = rw one refl

@@ -17,7 +17,7 @@ use Rattle.dirac_blocks.specs.declared.parts.ListKind.{ListKind}
 use Rattle.dirac_blocks.specs.declared.parts.ListKind.TheVariants as parts
 use Rattle.dirac_block_table.specs.declared.reference.Reference.{Reference}
 use Rattle.dirac_block_table.specs.declared.reference.Reference.TheVariants as references
-use Rattle.dirac_blocks.specs.Carried.{with_part}
+use Rattle.dirac_blocks.specs.Carried.{with_list_part}
 use Rattle.dirac_blocks.specs.Decisions.{counted, less_prediction, predicted}
 use Rattle.dirac_blocks.specs.Grammar.{value_coded, coded_into, unit_coded, uses, is_dc, with_across, with_down, with_dc}
 use Rattle.dirac_blocks.specs.Parts.{vector_at, dc_at, part_at}
@@ -54,7 +54,7 @@ pub record IsValue (part : ListKind) (has : Block → Bool) (value : Block → �
   pub has_put : (b : Block) (v : ℤ) → has (put b v) ≡ has b
   pub value_put : (b : Block) (v : ℤ) → value (put b v) ≡ v
   pub own : (b : Block) → put b (value b) ≡ b
-  pub with_is : (b c : Block) → with_part part b c ≡ put b (value c)
+  pub with_is : (b c : Block) → with_list_part part b c ≡ put b (value c)
   pub short : (refs : ℕ) (b : Block) → IsBlock refs b → IsShort (value b)
   pub alike : (b c : Block) → b.ref1 ≡ c.ref1 → b.ref2 ≡ c.ref2 → has b ≡ has c
   pub none : (refs : ℕ) (b : Block) → IsBlock refs b → has b ≡ false → value b ≡ pos 0
@@ -73,11 +73,11 @@ pub record Tells (part : ListKind) : Type 0 where
   pub short : (u : BlockTable) (i j : ℕ) → IsBlockTable u → IsShort (told u i j).prediction
 
 -- blocks that differ in the value alone have it or don't alike
-pub has_same : (part : ListKind) (k : Tells part) (b c : Block) → with_part part b c ≡ c → k.has b ≡ k.has c
+pub has_same : (part : ListKind) (k : Tells part) (b c : Block) → with_list_part part b c ≡ c → k.has b ≡ k.has c
 has_same part k b c is = sym (k.is.has_put b (k.value c)) ∙ ap k.has (sym (k.is.with_is b c) ∙ is)
 
 -- a block that hasn't the value is as another with the other's value
-pub put_none : (part : ListKind) (k : Tells part) (refs : ℕ) (b c : Block) → IsBlock refs b → IsBlock refs c → k.has b ≡ k.has c → k.has b ≡ false → b ≡ with_part part b c
+pub put_none : (part : ListKind) (k : Tells part) (refs : ℕ) (b c : Block) → IsBlock refs b → IsBlock refs c → k.has b ≡ k.has c → k.has b ≡ false → b ≡ with_list_part part b c
 put_none part k refs b c h g has lacks =
     sym (k.is.own b) ∙ ap (λ (v : ℤ). k.put b v) (k.is.none refs b h lacks ∙ sym (k.is.none refs c g (sym has ∙ lacks))) ∙ sym (k.is.with_is b c)
 
@@ -165,7 +165,7 @@ dc_tells c =
     }
 
 -- a part that is told twice is as told last
-pub part_again : (part : ListKind) (a b c : Block) → with_part part (with_part part a b) c ≡ with_part part a c
+pub part_again : (part : ListKind) (a b c : Block) → with_list_part part (with_list_part part a b) c ≡ with_list_part part a c
 part_again parts.Modes a b c = refl
 part_again (parts.Across references.First) a b c = refl
 part_again (parts.Across references.Second) a b c = refl

@@ -2,7 +2,7 @@
 -- arithmetic block, which is read over the table that the lists before gave. Superblocks are read by rows, the units
 -- of one by rows, and what a unit has holds for all its blocks.
 use Rattle.std.specs.Prelude.{ℕ, ℤ, pos, negsuc, ◌+◌, ◌+ℤ◌, ◌*◌, ◌%◌, ◌^◌, ◌==◌, int_le, if◌then◌else◌, Bool}
-use Rattle.std.specs.Prelude.{true, false, not, ◌||◌, ◌&&◌, List, Result, Ok, Err}
+use Rattle.std.specs.Prelude.{true, false, not, ◌||◌, ◌&&◌, List, Option, Some, None, Result, Ok, Err}
 use Rattle.dirac_arith.specs.declared.contexts.TheConstants.{DC_DIGITS, DC_FOLLOW, DC_SIGN, REFERENCE_1, REFERENCE_2}
 use Rattle.dirac_arith.specs.declared.contexts.TheConstants.{SPLIT_DIGITS, SPLIT_FOLLOW, VECTOR_DIGITS, VECTOR_FOLLOW}
 use Rattle.dirac_arith.specs.declared.contexts.TheConstants.{VECTOR_SIGN}
@@ -27,16 +27,16 @@ use Rattle.dirac_blocks.specs.Decisions.{predicted, predicted_split, differ, ref
 use Rattle.dirac_blocks.specs.Parts.{vector_at, dc_at}
 
 -- what is read next: it leads from one table to another, or is refused
-abbrev pub Step : Type 0
-Step = BlockTable → Coded BlockTable
+abbrev pub TableStep : Type 0
+TableStep = BlockTable → Coded BlockTable
 
 -- the split of superblock sx of row sy: the sum modulo 3 of a number and the prediction
-unfoldable pub split_step : ℕ → ℕ → Step
+unfoldable pub split_step : ℕ → ℕ → TableStep
 split_step sy sx t =
     number SPLIT_FOLLOW SPLIT_DIGITS (λ n. coded.done (with_split t sx sy ((n + predicted_split t sx sy) % 3)))
 
 -- the splits of all superblocks
-abbrev pub splits_step : Step
+abbrev pub splits_step : TableStep
 splits_step t = repeated (λ sy. repeated (split_step sy) t.across) t.down t
 
 -- a block that uses these references, all of whose values are 0
@@ -56,13 +56,13 @@ mode_coded t i j =
     (λ second. coded.done (block_using (differ first (predicted mode_of (ref1_at t) i j)) second)))
 
 -- whether a value has 16 bits
-abbrev pub is_short : ℤ → Bool
-is_short v = int_le (negsuc 32767) v && int_le v (pos 32767)
+abbrev pub has_16_bits : ℤ → Bool
+has_16_bits v = int_le (negsuc 32767) v && int_le v (pos 32767)
 
 -- a value that was predicted, from the number that it differs by; refused where it hasn't 16 bits
 abbrev pub value_from : Cause → ℤ → ℤ → Coded ℤ
 value_from cause prediction n =
-    if is_short (n +ℤ prediction) then coded.done (n +ℤ prediction) else coded.refuse cause
+    if has_16_bits (n +ℤ prediction) then coded.done (n +ℤ prediction) else coded.refuse cause
 
 -- a value that is predicted
 abbrev pub value_coded : Cause → List ℕ → ℕ → ℕ → ℤ → Coded ℤ
@@ -116,25 +116,30 @@ unit_coded (parts.Dc c) t i j =
     (value_coded DcRange DC_FOLLOW DC_DIGITS DC_SIGN (predicted dc_of (dc_at c t) i j))
 
 -- a unit
-unfoldable pub unit_step : ListKind → ℕ → ℕ → ℕ → Step
-unit_step part size i j t = and_then (unit_coded part t i j) (λ b. coded.done (with_unit t size i j b))
+unfoldable pub unit_read_step : ListKind → ℕ → ℕ → ℕ → TableStep
+unit_read_step part size i j t = and_then (unit_coded part t i j) (λ b. coded.done (with_unit t size i j b))
 
 -- n units of a row, from block i of row j on
-abbrev pub unit_row_step : ListKind → ℕ → ℕ → ℕ → ℕ → Step
-unit_row_step part size i j n t = repeated (λ u. unit_step part size (i + u * size) j) n t
+abbrev pub unit_row_step : ListKind → ℕ → ℕ → ℕ → ℕ → TableStep
+unit_row_step part size i j n t = repeated (λ u. unit_read_step part size (i + u * size) j) n t
 
 -- n rows of that many units each
-abbrev pub unit_rows_step : ListKind → ℕ → ℕ → ℕ → ℕ → ℕ → Step
+abbrev pub unit_rows_step : ListKind → ℕ → ℕ → ℕ → ℕ → ℕ → TableStep
 unit_rows_step part size across i j n t = repeated (λ v. unit_row_step part size i (j + v * size) across) n t
 
 -- superblock sx of row sy
-unfoldable pub superblock_step : ListKind → ℕ → ℕ → Step
+unfoldable pub superblock_step : ListKind → ℕ → ℕ → TableStep
 superblock_step part sy sx t =
     let s = split_at t sx sy in unit_rows_step part (unit_size s) (2 ^ s) (4 * sx) (4 * sy) (2 ^ s) t
 
 -- all superblocks
-abbrev pub units_step : ListKind → Step
+abbrev pub units_step : ListKind → TableStep
 units_step part t = repeated (λ sy. repeated (superblock_step part sy) t.across) t.down t
+
+-- all that one list tells: the splits, or what it tells of each unit
+abbrev pub step_of : Option ListKind → TableStep
+step_of None = splits_step
+step_of (Some part) = units_step part
 
 -- the table that a block reads to, or the refusal of the block
 abbrev pub table_from : ℕ → Result (BlockTable × Reading) Cause → Syntax BlockTable
@@ -142,18 +147,18 @@ table_from at (Ok x) = done x.0
 table_from at (Err cause) = refuse at cause
 
 -- a list, read over this table
-unfoldable pub listed : Step → BlockTable → Syntax BlockTable
-listed step t = do
+unfoldable pub list_over : TableStep → BlockTable → Syntax BlockTable
+list_over step t = do
   len ← uint
   gap ← align
   at ← here
-  block_then len (λ block. table_from at (coded.read (step t) (begin block)))
+  block_then len (λ block. table_from at (coded.read_coded (step t) (begin block)))
 
 -- both components of the vectors of a reference
 unfoldable pub vectors_listed : Reference → BlockTable → Syntax BlockTable
 vectors_listed k t = do
-  t ← listed (units_step (parts.Across k)) t
-  listed (units_step (parts.Down k)) t
+  t ← list_over (units_step (parts.Across k)) t
+  list_over (units_step (parts.Down k)) t
 
 -- the vectors of reference 2, where there is one
 unfoldable pub second_listed : BlockTable → Syntax BlockTable
@@ -162,9 +167,9 @@ second_listed t = if t.refs == 2 then vectors_listed references.Second t else do
 -- the DC values
 unfoldable pub dcs_listed : BlockTable → Syntax BlockTable
 dcs_listed t = do
-  t ← listed (units_step (parts.Dc components.Y)) t
-  t ← listed (units_step (parts.Dc components.U)) t
-  listed (units_step (parts.Dc components.V)) t
+  t ← list_over (units_step (parts.Dc components.Y)) t
+  t ← list_over (units_step (parts.Dc components.U)) t
+  list_over (units_step (parts.Dc components.V)) t
 
 -- the vectors and the DC values
 unfoldable pub values_listed : BlockTable → Syntax BlockTable
@@ -176,8 +181,8 @@ values_listed t = do
 -- all lists, in the order of their blocks
 unfoldable pub lists_of : BlockTable → Syntax BlockTable
 lists_of t = do
-  t ← listed splits_step t
-  t ← listed (units_step parts.Modes) t
+  t ← list_over splits_step t
+  t ← list_over (units_step parts.Modes) t
   values_listed t
 
 -- a block table

@@ -9,7 +9,7 @@ use Rattle.dirac_arith.specs.Interval.{Decision}
 use Rattle.dirac_blocks.specs.declared.parts.ListKind.{ListKind}
 use Rattle.dirac_blocks.specs.Carried.{CarriesPart, CarriesSplits, ReadsTo, IsRefused}
 use Rattle.dirac_blocks.specs.Decisions.{unit_decisions}
-use Rattle.dirac_blocks.specs.Grammar.{Step, splits_step, units_step}
+use Rattle.dirac_blocks.specs.Grammar.{TableStep, splits_step, units_step}
 use Rattle.dirac_blocks.specs.Parts.{part_at}
 use Rattle.dirac_blocks.specs.Reached.{AllGrey}
 use Rattle.dirac_block_table.specs.Tables.{BlockTable, IsBlockTable}
@@ -50,13 +50,13 @@ ReadSplitsAreCarried =
 -- a list is refused, but for a block that begins with sixteen ones, exactly where the block breaks off
 abbrev pub RefusedIsBroken : Type 0
 RefusedIsBroken =
-    (step : Step) (former : BlockTable) (block : List ℕ) (cause : Cause) →
+    (step : TableStep) (former : BlockTable) (block : List ℕ) (cause : Cause) →
     front block 16 ≢ 65535 →
     IsRefused step former block cause ↔ ((ds : List Decision) × Breaks (step former) cause ds × Carries block ds)
 
 -- a block that begins with sixteen ones is refused for them exactly where its list needs a decision
-abbrev pub OnesAreRefused : Type 0
-OnesAreRefused =
+abbrev pub OnesInListAreRefused : Type 0
+OnesInListAreRefused =
     (part : ListKind) (former : BlockTable) (block : List ℕ) →
     IsBlockTable former →
     front block 16 ≡ 65535 →

@@ -4,19 +4,20 @@ use Rattle.dirac_common.specs.declared.faults.Cause.{Cause}
 use Rattle.dirac_common.specs.declared.faults.Refusal.{Refusal}
 use Rattle.dirac_arith.specs.Reading.{Reading}
 use Rattle.dirac_bits.specs.Cursor.{Cursor}
-pub use Rattle.dirac_block_table.specs.Filling.{AllGrey, IsUnit}
+pub use Rattle.dirac_block_table.specs.Filling.{AllGrey, IsFirstOfUnit}
 use Rattle.dirac_block_table.specs.Tables.{BlockTable}
 
 -- the answer is this step, from which the table and the reading come; nothing is said of them after a refusal
-abbrev pub Moves : {A : Type 0} → Result A Cause → BlockTable → Reading → Result (BlockTable × Reading) Cause
+abbrev pub StepMoves : {A : Type 0} → Result A Cause → BlockTable → Reading → Result (BlockTable × Reading) Cause
     → Type 0
-Moves (Ok x) table reading step = step ≡ Ok (table, reading)
-Moves (Err cause) table reading step = step ≡ Err cause
+StepMoves (Ok x) table reading step = step ≡ Ok (table, reading)
+StepMoves (Err cause) table reading step = step ≡ Err cause
 
 -- the answer is what is read, from which the table and the reader's place come
-abbrev pub Lists : {A : Type 0} → Result A Refusal → BlockTable → Cursor → Result (BlockTable × Cursor) Refusal → Type 0
-Lists (Ok x) table new read = read ≡ Ok (table, new)
-Lists (Err e) table new read = read ≡ Err e
+abbrev pub ListIsRead : {A : Type 0} → Result A Refusal → BlockTable → Cursor → Result (BlockTable × Cursor) Refusal
+    → Type 0
+ListIsRead (Ok x) table new read = read ≡ Ok (table, new)
+ListIsRead (Err e) table new read = read ≡ Err e
 
 -- the sizes are the same
 pub record SameSize (old new : BlockTable) : Type 0 where

@@ -16,6 +16,6 @@ with_lists [] bits = bits
 with_lists (ds ∷ more) bits = with_lists more (with_block (flush ds) bits)
 
 -- the length of each list's block can be spelt
-abbrev pub AreShort : List (List Decision) → Type 0
-AreShort [] = Unit {0}
-AreShort (ds ∷ more) = (length (flush ds) + 1 < 2 ^ 39) × AreShort more
+abbrev pub ListsHaveShortBlocks : List (List Decision) → Type 0
+ListsHaveShortBlocks [] = Unit {0}
+ListsHaveShortBlocks (ds ∷ more) = (length (flush ds) + 1 < 2 ^ 39) × ListsHaveShortBlocks more

@@ -1,8 +1,8 @@
-ghost use Rattle.std.specs.Prelude.{◌≡◌, ◌≤◌, length, IfErr};
+ghost use Rattle.std.specs.Prelude.{◌≡◌, ◌≤◌, length, IfErr, None};
 ghost use Rattle.dirac_bits.specs.Syntax.{read};
-ghost use Rattle.dirac_blocks.specs.Grammar.{dcs_listed, listed, lists_of, second_listed, splits_step, units_step};
+ghost use Rattle.dirac_blocks.specs.Grammar.{dcs_listed, list_over, lists_of, second_listed, step_of};
 ghost use Rattle.dirac_blocks.specs.Grammar.{values_listed, vectors_listed};
-ghost use Rattle.dirac_blocks.specs.Reached.{AllGrey, Lists, SameBlocks, SameShape, SameSize};
+ghost use Rattle.dirac_blocks.specs.Reached.{AllGrey, ListIsRead, SameSize};
 
 use crate::parts::ListKind;
 use crate::split_reader::read_splits;
@@ -12,40 +12,40 @@ use dirac_bits::BitReader;
 use dirac_block_table::{BlockData, Reference};
 use dirac_common::{Component, Refusal};
 
-/// Reads the block of the splits.
-fn read_split_list(r: &mut BitReader<'_>, table: &mut BlockData) -> Result<(), Refusal>
-    requires { AllGrey table.old.blocks }
-    ensures value { Lists result table.new r.new (read (listed splits_step table.old) r.old) }
-    ensures blocks { SameBlocks table.old table.new }
+/// Reads the block of what a list tells of each unit, or, where none is named, the block of the splits.
+fn read_list(
+    r: &mut BitReader<'_>,
+    table: &mut BlockData,
+    part: Option<ListKind>,
+) -> Result<(), Refusal>
+    requires { part ≡ None → AllGrey table.old.blocks }
+    ensures value { ListIsRead result table.new r.new (read (list_over (step_of part) table.old) r.old) }
+    ensures size { SameSize table.old table.new }
     ensures place_inside { IfErr result (λ e. e.at ≤ length r.old.bytes) }
     ensures kept { r.new.bytes ≡ r.old.bytes }
 {
-    let len = r.uint()?;
-    r.align();
-    let at = r.place();
-    let block = r.block(len)?;
-    let mut decoder = Decoder::new(block);
-    match read_splits(&mut decoder, table) {
-        Ok(()) => Ok(()),
-        Err(cause) => Err(Refusal { at, cause }),
-    }
-}
-
-/// Reads the block of what a list tells of each unit.
-fn read_list(r: &mut BitReader<'_>, table: &mut BlockData, part: ListKind) -> Result<(), Refusal>
-    ensures value { Lists result table.new r.new (read (listed (units_step part) table.old) r.old) }
-    ensures shape { SameShape table.old table.new }
-    ensures place_inside { IfErr result (λ e. e.at ≤ length r.old.bytes) }
-    ensures kept { r.new.bytes ≡ r.old.bytes }
-{
-    let len = r.uint()?;
-    r.align();
-    let at = r.place();
-    let block = r.block(len)?;
-    let mut decoder = Decoder::new(block);
-    match read_units(&mut decoder, table, part) {
-        Ok(()) => Ok(()),
-        Err(cause) => Err(Refusal { at, cause }),
+    match r.uint() {
+        Ok(len) => {
+            r.align();
+            let at = r.place();
+            match r.block(len) {
+                Ok(block) => {
+                    let mut decoder = Decoder::new(block);
+                    match part {
+                        None => match read_splits(&mut decoder, table) {
+                            Ok(()) => Ok(()),
+                            Err(cause) => Err(Refusal { at, cause }),
+                        },
+                        Some(part) => match read_units(&mut decoder, table, part) {
+                            Ok(()) => Ok(()),
+                            Err(cause) => Err(Refusal { at, cause }),
+                        },
+                    }
+                }
+                Err(e) => Err(e),
+            }
+        }
+        Err(e) => Err(e),
     }
 }
 
@@ -55,21 +55,21 @@ fn read_vectors(
     table: &mut BlockData,
     reference: Reference,
 ) -> Result<(), Refusal>
-    ensures value { Lists result table.new r.new (read (vectors_listed reference table.old) r.old) }
-    ensures shape { SameShape table.old table.new }
+    ensures value { ListIsRead result table.new r.new (read (vectors_listed reference table.old) r.old) }
+    ensures size { SameSize table.old table.new }
     ensures place_inside { IfErr result (λ e. e.at ≤ length r.old.bytes) }
     ensures kept { r.new.bytes ≡ r.old.bytes }
 {
-    match read_list(r, table, ListKind::Across(reference)) {
-        Ok(()) => read_list(r, table, ListKind::Down(reference)),
+    match read_list(r, table, Some(ListKind::Across(reference))) {
+        Ok(()) => read_list(r, table, Some(ListKind::Down(reference))),
         Err(e) => Err(e),
     }
 }
 
 /// Reads the blocks of the second reference, where there is one.
 fn read_second(r: &mut BitReader<'_>, table: &mut BlockData) -> Result<(), Refusal>
-    ensures value { Lists result table.new r.new (read (second_listed table.old) r.old) }
-    ensures shape { SameShape table.old table.new }
+    ensures value { ListIsRead result table.new r.new (read (second_listed table.old) r.old) }
+    ensures size { SameSize table.old table.new }
     ensures place_inside { IfErr result (λ e. e.at ≤ length r.old.bytes) }
     ensures kept { r.new.bytes ≡ r.old.bytes }
 {
@@ -81,14 +81,14 @@ fn read_second(r: &mut BitReader<'_>, table: &mut BlockData) -> Result<(), Refus
 
 /// Reads the blocks of the DC values.
 fn read_dcs(r: &mut BitReader<'_>, table: &mut BlockData) -> Result<(), Refusal>
-    ensures value { Lists result table.new r.new (read (dcs_listed table.old) r.old) }
-    ensures shape { SameShape table.old table.new }
+    ensures value { ListIsRead result table.new r.new (read (dcs_listed table.old) r.old) }
+    ensures size { SameSize table.old table.new }
     ensures place_inside { IfErr result (λ e. e.at ≤ length r.old.bytes) }
     ensures kept { r.new.bytes ≡ r.old.bytes }
 {
-    match read_list(r, table, ListKind::Dc(Component::Y)) {
-        Ok(()) => match read_list(r, table, ListKind::Dc(Component::U)) {
-            Ok(()) => read_list(r, table, ListKind::Dc(Component::V)),
+    match read_list(r, table, Some(ListKind::Dc(Component::Y))) {
+        Ok(()) => match read_list(r, table, Some(ListKind::Dc(Component::U))) {
+            Ok(()) => read_list(r, table, Some(ListKind::Dc(Component::V))),
             Err(e) => Err(e),
         },
         Err(e) => Err(e),
@@ -97,8 +97,8 @@ fn read_dcs(r: &mut BitReader<'_>, table: &mut BlockData) -> Result<(), Refusal>
 
 /// Reads the blocks of the vectors and DC values.
 fn read_values(r: &mut BitReader<'_>, table: &mut BlockData) -> Result<(), Refusal>
-    ensures value { Lists result table.new r.new (read (values_listed table.old) r.old) }
-    ensures shape { SameShape table.old table.new }
+    ensures value { ListIsRead result table.new r.new (read (values_listed table.old) r.old) }
+    ensures size { SameSize table.old table.new }
     ensures place_inside { IfErr result (λ e. e.at ≤ length r.old.bytes) }
     ensures kept { r.new.bytes ≡ r.old.bytes }
 {
@@ -114,13 +114,13 @@ fn read_values(r: &mut BitReader<'_>, table: &mut BlockData) -> Result<(), Refus
 /// Reads the blocks of all lists into a table of which nothing is read.
 pub fn read_lists(r: &mut BitReader<'_>, table: &mut BlockData) -> Result<(), Refusal>
     requires { AllGrey table.old.blocks }
-    ensures value { Lists result table.new r.new (read (lists_of table.old) r.old) }
+    ensures value { ListIsRead result table.new r.new (read (lists_of table.old) r.old) }
     ensures size { SameSize table.old table.new }
     ensures place_inside { IfErr result (λ e. e.at ≤ length r.old.bytes) }
     ensures kept { r.new.bytes ≡ r.old.bytes }
 {
-    match read_split_list(r, table) {
-        Ok(()) => match read_list(r, table, ListKind::Modes) {
+    match read_list(r, table, None) {
+        Ok(()) => match read_list(r, table, Some(ListKind::Modes)) {
             Ok(()) => read_values(r, table),
             Err(e) => Err(e),
         },

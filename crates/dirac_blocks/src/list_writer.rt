@@ -4,8 +4,8 @@ ghost use Rattle.dirac_blocks.specs.Decisions.{least_numbers, split_rows, unit_d
 ghost use Rattle.dirac_blocks.specs.Parts.{part_at};
 
 use crate::parts::ListKind;
-use crate::split_writer::write_split_rows;
-use crate::unit_loops::write_superblock_rows;
+use crate::split_writer::write_split_row;
+use crate::unit_loops::write_superblock_row;
 use dirac_arith::Encoder;
 use dirac_block_table::BlockData;
 use dirac_common::NoMemory;
@@ -19,7 +19,12 @@ pub fn split_block(alloc: Global, table: &BlockData) -> Result<Vec<u8>, NoMemory
     let mut encoder = Encoder::new(alloc);
     let across = table.across();
     let down = table.down();
-    write_split_rows(&mut encoder, table, across, down)?;
+    'rows: for n in 0..down {
+        match write_split_row(&mut encoder, table, n, across) {
+            Ok(()) => {}
+            Err(e) => return Err(e),
+        }
+    }
     encoder.finish()
 }
 
@@ -30,6 +35,11 @@ pub fn part_block(alloc: Global, table: &BlockData, part: ListKind) -> Result<Ve
     let mut encoder = Encoder::new(alloc);
     let across = table.across();
     let down = table.down();
-    write_superblock_rows(&mut encoder, table, part, across, down)?;
+    'rows: for n in 0..down {
+        match write_superblock_row(&mut encoder, table, part, n, across) {
+            Ok(()) => {}
+            Err(e) => return Err(e),
+        }
+    }
     encoder.finish()
 }

@@ -1,7 +1,7 @@
 ghost use Rattle.std.specs.Prelude.{◌≡◌, ◌+◌, ◌*◌, ◌^◌, ◌<◌, ◌≤◌};
-ghost use Rattle.dirac_arith.specs.Coded.{read, repeated};
+ghost use Rattle.dirac_arith.specs.Coded.{read_coded, repeated};
 ghost use Rattle.dirac_blocks.specs.Grammar.{split_step, splits_step};
-ghost use Rattle.dirac_blocks.specs.Reached.{AllGrey, Moves, SameBlocks};
+ghost use Rattle.dirac_blocks.specs.Reached.{AllGrey, StepMoves, SameBlocks};
 
 use dirac_arith::{Decoder, SPLIT_DIGITS, SPLIT_FOLLOW};
 use dirac_block_table::{BlockData, predict_split_at};
@@ -18,14 +18,14 @@ fn read_split(
     requires row { sy < table.old.down }
     requires grey { AllGrey table.old.blocks }
     requires no_overflow { decoder.old.at.doublings < 2 ^ 61 }
-    ensures value { Moves result table.new decoder.new (read (split_step sy sx table.old) decoder.old) }
+    ensures value { StepMoves result table.new decoder.new (read_coded (split_step sy sx table.old) decoder.old) }
     ensures blocks { SameBlocks table.old table.new }
     ensures few_doublings { decoder.new.at.doublings ≤ decoder.old.at.doublings + 693 }
 {
     match decoder.number(&SPLIT_FOLLOW, SPLIT_DIGITS) {
         Ok(number) => {
             let prediction = predict_split_at(table, sx, sy);
-            let split = (number + u64::from(prediction)) % 3;
+            let split = (number + prediction as u64) % 3;
             table.set_split(sx, sy, split as u8);
             Ok(())
         }
@@ -45,36 +45,16 @@ fn read_split_row(
     requires at_most_1024 { table.old.across ≤ MOST_SUPERBLOCKS }
     requires grey { AllGrey table.old.blocks }
     requires no_overflow { decoder.old.at.doublings < 2 ^ 60 }
-    ensures value { Moves result table.new decoder.new
-        (read (repeated (split_step sy) count table.old) decoder.old) }
+    ensures value { StepMoves result table.new decoder.new
+        (read_coded (repeated (split_step sy) count table.old) decoder.old) }
     ensures blocks { SameBlocks table.old table.new }
     ensures few_doublings { decoder.new.at.doublings ≤ decoder.old.at.doublings + 693 * count }
 {
     'superblocks: for n in 0..count {
-        read_split(decoder, table, n, sy)?;
-    }
-    Ok(())
-}
-
-/// Reads how the superblocks of the first `count` rows are split, `across` in each: all that there are in a row.
-fn read_split_rows(
-    decoder: &mut Decoder<'_>,
-    table: &mut BlockData,
-    across: u32,
-    count: u32,
-) -> Result<(), Cause>
-    requires column { across ≤ table.old.across }
-    requires row { count ≤ table.old.down }
-    requires most_across { table.old.across ≤ MOST_SUPERBLOCKS }
-    requires most_down { table.old.down ≤ MOST_SUPERBLOCKS }
-    requires grey { AllGrey table.old.blocks }
-    requires at_the_start { decoder.old.at.doublings ≡ 0 }
-    ensures value { Moves result table.new decoder.new (read (repeated (λ sy. repeated (split_step sy) across) count
-        table.old) decoder.old) }
-    ensures blocks { SameBlocks table.old table.new }
-{
-    'rows: for n in 0..count {
-        read_split_row(decoder, table, n, across)?;
+        match read_split(decoder, table, n, sy) {
+            Ok(()) => {}
+            Err(cause) => return Err(cause),
+        }
     }
     Ok(())
 }
@@ -83,10 +63,16 @@ fn read_split_rows(
 pub fn read_splits(decoder: &mut Decoder<'_>, table: &mut BlockData) -> Result<(), Cause>
     requires grey { AllGrey table.old.blocks }
     requires at_the_start { decoder.old.at.doublings ≡ 0 }
-    ensures value { Moves result table.new decoder.new (read (splits_step table.old) decoder.old) }
+    ensures value { StepMoves result table.new decoder.new (read_coded (splits_step table.old) decoder.old) }
     ensures blocks { SameBlocks table.old table.new }
 {
     let across = table.across();
     let down = table.down();
-    read_split_rows(decoder, table, across, down)
+    'rows: for n in 0..down {
+        match read_split_row(decoder, table, n, across) {
+            Ok(()) => {}
+            Err(cause) => return Err(cause),
+        }
+    }
+    Ok(())
 }

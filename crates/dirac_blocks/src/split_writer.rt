@@ -1,7 +1,7 @@
 ghost use Rattle.std.specs.Prelude.{◌≡◌, ◌<◌, ◌≤◌, [], ◌∷◌, OnOk};
 ghost use Rattle.dirac_arith.specs.Interval.{narrowed_by};
 ghost use Rattle.dirac_arith.specs.Spelling.{spelling};
-ghost use Rattle.dirac_blocks.specs.Decisions.{least_numbers, split_row, split_rows};
+ghost use Rattle.dirac_blocks.specs.Decisions.{least_numbers, split_row};
 
 use dirac_arith::{Encoder, SPLIT_DIGITS, SPLIT_FOLLOW};
 use dirac_block_table::{BlockData, predict_split_at};
@@ -17,11 +17,11 @@ fn write_split(encoder: &mut Encoder, table: &BlockData, sx: u32, sy: u32) -> Re
     let split = table.split(sx, sy);
     let prediction = predict_split_at(table, sx, sy);
     let number = (split + 3 - prediction) % 3;
-    encoder.number(&SPLIT_FOLLOW, SPLIT_DIGITS, u64::from(number))
+    encoder.number(&SPLIT_FOLLOW, SPLIT_DIGITS, number as u64)
 }
 
 /// Writes the numbers of the first `count` superblocks of row `sy`.
-fn write_split_row(
+pub fn write_split_row(
     encoder: &mut Encoder,
     table: &BlockData,
     sy: u32,
@@ -32,25 +32,10 @@ fn write_split_row(
     ensures { OnOk result (encoder.new ≡ narrowed_by encoder.old (split_row (least_numbers table.now) sy count)) }
 {
     'superblocks: for n in 0..count {
-        write_split(encoder, table, n, sy)?;
-    }
-    Ok(())
-}
-
-/// Writes the numbers of the first `count` rows of superblocks, `across` in each: all that there are in a row.
-pub fn write_split_rows(
-    encoder: &mut Encoder,
-    table: &BlockData,
-    across: u32,
-    count: u32,
-) -> Result<(), NoMemory>
-    requires column { across ≡ table.now.across }
-    requires row { count ≤ table.now.down }
-    ensures { OnOk result (encoder.new ≡ narrowed_by encoder.old
-        (split_rows table.now.across (least_numbers table.now) count)) }
-{
-    'rows: for n in 0..count {
-        write_split_row(encoder, table, n, across)?;
+        match write_split(encoder, table, n, sy) {
+            Ok(()) => {}
+            Err(e) => return Err(e),
+        }
     }
     Ok(())
 }

@@ -1,6 +1,6 @@
 ghost use Rattle.std.specs.Prelude.{◌≡◌, ◌+◌, ◌*◌, ◌<◌, ◌≤◌, OnOk};
 ghost use Rattle.dirac_arith.specs.Interval.{narrowed_by};
-ghost use Rattle.dirac_blocks.specs.Decisions.{unit_row, unit_rows, superblock_part, superblock_row, superblock_rows};
+ghost use Rattle.dirac_blocks.specs.Decisions.{unit_row, superblock_part, superblock_row};
 ghost use Rattle.dirac_blocks.specs.Parts.{part_at};
 
 use crate::parts::ListKind;
@@ -26,31 +26,10 @@ fn write_unit_row(
     ensures { OnOk result (encoder.new ≡ narrowed_by encoder.old (unit_row (part_at part table.now) size i j count)) }
 {
     'units: for n in 0..count {
-        write_unit(encoder, table, part, i + n * size, j)?;
-    }
-    Ok(())
-}
-
-/// Writes the units of a superblock whose first block is block `i` of row `j`: `across` rows of `across` units each.
-fn write_unit_rows(
-    encoder: &mut Encoder,
-    table: &BlockData,
-    part: ListKind,
-    size: u32,
-    across: u32,
-    i: u32,
-    j: u32,
-) -> Result<(), NoMemory>
-    requires size { 1 ≤ size }
-    requires column { i + across * size ≤ 4 * table.now.across }
-    requires row { j + across * size ≤ 4 * table.now.down }
-    requires most_across { table.now.across ≤ MOST_SUPERBLOCKS }
-    requires most_down { table.now.down ≤ MOST_SUPERBLOCKS }
-    ensures { OnOk result (encoder.new ≡ narrowed_by encoder.old
-        (unit_rows (part_at part table.now) size across i j across)) }
-{
-    'rows: for n in 0..across {
-        write_unit_row(encoder, table, part, size, i, j + n * size, across)?;
+        match write_unit(encoder, table, part, i + n * size, j) {
+            Ok(()) => {}
+            Err(e) => return Err(e),
+        }
     }
     Ok(())
 }
@@ -65,19 +44,26 @@ fn write_superblock(
 ) -> Result<(), NoMemory>
     requires column { sx < table.now.across }
     requires row { sy < table.now.down }
-    requires most_across { table.now.across ≤ MOST_SUPERBLOCKS }
-    requires most_down { table.now.down ≤ MOST_SUPERBLOCKS }
     ensures { OnOk result (encoder.new ≡ narrowed_by encoder.old
         (superblock_part (part_at part table.now) table.now sx sy)) }
 {
     let split = table.split(sx, sy);
     let size = unit_blocks(split) as u32;
     let across = units_across(split) as u32;
-    write_unit_rows(encoder, table, part, size, across, 4 * sx, 4 * sy)
+    let left = 4 * sx;
+    let top = 4 * sy;
+    'rows: for n in 0..across {
+        let row = top + n * size;
+        match write_unit_row(encoder, table, part, size, left, row, across) {
+            Ok(()) => {}
+            Err(e) => return Err(e),
+        }
+    }
+    Ok(())
 }
 
 /// Writes the first `count` superblocks of row `sy`.
-fn write_superblock_row(
+pub fn write_superblock_row(
     encoder: &mut Encoder,
     table: &BlockData,
     part: ListKind,
@@ -86,34 +72,14 @@ fn write_superblock_row(
 ) -> Result<(), NoMemory>
     requires column { count ≤ table.now.across }
     requires row { sy < table.now.down }
-    requires most_across { table.now.across ≤ MOST_SUPERBLOCKS }
-    requires most_down { table.now.down ≤ MOST_SUPERBLOCKS }
     ensures { OnOk result (encoder.new ≡ narrowed_by encoder.old
         (superblock_row (part_at part table.now) table.now sy count)) }
 {
     'superblocks: for n in 0..count {
-        write_superblock(encoder, table, part, n, sy)?;
-    }
-    Ok(())
-}
-
-/// Writes the first `count` rows of superblocks, `across` in each: all that there are in a row.
-pub fn write_superblock_rows(
-    encoder: &mut Encoder,
-    table: &BlockData,
-    part: ListKind,
-    across: u32,
-    count: u32,
-) -> Result<(), NoMemory>
-    requires column { across ≡ table.now.across }
-    requires row { count ≤ table.now.down }
-    requires most_across { table.now.across ≤ MOST_SUPERBLOCKS }
-    requires most_down { table.now.down ≤ MOST_SUPERBLOCKS }
-    ensures { OnOk result (encoder.new ≡ narrowed_by encoder.old
-        (superblock_rows (part_at part table.now) table.now count)) }
-{
-    'rows: for n in 0..count {
-        write_superblock_row(encoder, table, part, n, across)?;
+        match write_superblock(encoder, table, part, n, sy) {
+            Ok(()) => {}
+            Err(e) => return Err(e),
+        }
     }
     Ok(())
 }

@@ -1,9 +1,9 @@
 ghost use Rattle.std.specs.Prelude.{◌≡◌, ℤ, ◌+◌, ◌*◌, ◌<◌, ◌≤◌, ◌^◌, false, true, length, IfOk};
-ghost use Rattle.dirac_arith.specs.Deciding.{Gives};
+ghost use Rattle.dirac_arith.specs.Deciding.{GivesReading};
 ghost use Rattle.dirac_arith.specs.Spelling.{AreContexts};
 ghost use Rattle.dirac_vectors.specs.Neighbours.{IsShort};
-ghost use Rattle.dirac_arith.specs.Coded.{read};
-ghost use Rattle.dirac_blocks.specs.Grammar.{block_using, component_coded, is_dc, is_short, mode_coded, second_use};
+ghost use Rattle.dirac_arith.specs.Coded.{read_coded};
+ghost use Rattle.dirac_blocks.specs.Grammar.{block_using, component_coded, is_dc, has_16_bits, mode_coded, second_use};
 ghost use Rattle.dirac_blocks.specs.Grammar.{unit_coded, uses, value_coded, with_across, with_dc, with_down};
 ghost use Rattle.dirac_block_table.specs.Tables.{IsBlock};
 
@@ -20,7 +20,7 @@ use dirac_common::{Cause, Component, Vector};
 
 /// Whether a value has 16 bits.
 fn fits(value: i64) -> bool
-    ensures value { result ≡ is_short value }
+    ensures value { result ≡ has_16_bits value }
     ensures short { result ≡ true → IsShort value }
 {
     -32768 <= value && value <= 32767
@@ -41,7 +41,8 @@ fn read_value(
     requires sign { sign < CONTEXTS }
     requires prediction { IsShort prediction }
     requires no_overflow { decoder.old.at.doublings < 2 ^ 61 }
-    ensures value { Gives result decoder.new (read (value_coded cause follow.now bits sign prediction) decoder.old) }
+    ensures value { GivesReading result decoder.new
+        (read_coded (value_coded cause follow.now bits sign prediction) decoder.old) }
     ensures short { IfOk result IsShort }
     ensures few_doublings { decoder.new.at.doublings ≤ decoder.old.at.doublings + 702 }
 {
@@ -62,7 +63,7 @@ fn read_value(
 fn read_component(decoder: &mut Decoder<'_>, prediction: i32) -> Result<i32, Cause>
     requires prediction { IsShort prediction }
     requires no_overflow { decoder.old.at.doublings < 2 ^ 61 }
-    ensures value { Gives result decoder.new (read (component_coded prediction) decoder.old) }
+    ensures value { GivesReading result decoder.new (read_coded (component_coded prediction) decoder.old) }
     ensures short { IfOk result IsShort }
     ensures few_doublings { decoder.new.at.doublings ≤ decoder.old.at.doublings + 702 }
 {
@@ -86,7 +87,7 @@ fn read_second_use(
     requires column { i < 4 * table.now.across }
     requires row { j < 4 * table.now.down }
     requires no_overflow { decoder.old.at.doublings < 2 ^ 61 }
-    ensures value { Gives result decoder.new (read (second_use table.now i j) decoder.old) }
+    ensures value { GivesReading result decoder.new (read_coded (second_use table.now i j) decoder.old) }
     ensures single { table.now.refs ≡ 1 → IfOk result (λ second. second ≡ false) }
     ensures few_doublings { decoder.new.at.doublings ≤ decoder.old.at.doublings + 9 }
 {
@@ -123,7 +124,7 @@ fn read_mode(decoder: &mut Decoder<'_>, table: &BlockData, i: u32, j: u32) -> Re
     requires column { i < 4 * table.now.across }
     requires row { j < 4 * table.now.down }
     requires no_overflow { decoder.old.at.doublings < 2 ^ 60 }
-    ensures value { Gives result decoder.new (read (mode_coded table.now i j) decoder.old) }
+    ensures value { GivesReading result decoder.new (read_coded (mode_coded table.now i j) decoder.old) }
     ensures block { IfOk result (IsBlock table.now.refs) }
     ensures few_doublings { decoder.new.at.doublings ≤ decoder.old.at.doublings + 18 }
 {
@@ -195,7 +196,7 @@ fn read_across(
     requires column { i < 4 * table.now.across }
     requires row { j < 4 * table.now.down }
     requires no_overflow { decoder.old.at.doublings < 2 ^ 61 }
-    ensures value { Gives result decoder.new (read (unit_coded (ListKind.Across reference) table.now i j)
+    ensures value { GivesReading result decoder.new (read_coded (unit_coded (ListKind.Across reference) table.now i j)
         decoder.old) }
     ensures block { IfOk result (IsBlock table.now.refs) }
     ensures few_doublings { decoder.new.at.doublings ≤ decoder.old.at.doublings + 702 }
@@ -222,7 +223,7 @@ fn read_down(
     requires column { i < 4 * table.now.across }
     requires row { j < 4 * table.now.down }
     requires no_overflow { decoder.old.at.doublings < 2 ^ 61 }
-    ensures value { Gives result decoder.new (read (unit_coded (ListKind.Down reference) table.now i j)
+    ensures value { GivesReading result decoder.new (read_coded (unit_coded (ListKind.Down reference) table.now i j)
         decoder.old) }
     ensures block { IfOk result (IsBlock table.now.refs) }
     ensures few_doublings { decoder.new.at.doublings ≤ decoder.old.at.doublings + 702 }
@@ -249,7 +250,7 @@ fn read_dc(
     requires column { i < 4 * table.now.across }
     requires row { j < 4 * table.now.down }
     requires no_overflow { decoder.old.at.doublings < 2 ^ 61 }
-    ensures value { Gives result decoder.new (read (unit_coded (ListKind.Dc component) table.now i j)
+    ensures value { GivesReading result decoder.new (read_coded (unit_coded (ListKind.Dc component) table.now i j)
         decoder.old) }
     ensures block { IfOk result (IsBlock table.now.refs) }
     ensures few_doublings { decoder.new.at.doublings ≤ decoder.old.at.doublings + 702 }
@@ -283,7 +284,7 @@ pub fn read_unit_block(
     requires column { i < 4 * table.now.across }
     requires row { j < 4 * table.now.down }
     requires no_overflow { decoder.old.at.doublings < 2 ^ 60 }
-    ensures value { Gives result decoder.new (read (unit_coded part table.now i j) decoder.old) }
+    ensures value { GivesReading result decoder.new (read_coded (unit_coded part table.now i j) decoder.old) }
     ensures block { IfOk result (IsBlock table.now.refs) }
     ensures few_doublings { decoder.new.at.doublings ≤ decoder.old.at.doublings + 702 }
 {

@@ -1,8 +1,8 @@
 ghost use Rattle.std.specs.Prelude.{◌≡◌, ℕ, ◌+◌, ◌*◌, ◌^◌, ◌<◌, ◌≤◌};
-ghost use Rattle.dirac_arith.specs.Coded.{read, repeated};
-ghost use Rattle.dirac_blocks.specs.Grammar.{superblock_step, unit_row_step, unit_rows_step, unit_step};
+ghost use Rattle.dirac_arith.specs.Coded.{read_coded, repeated};
+ghost use Rattle.dirac_blocks.specs.Grammar.{superblock_step, unit_row_step, unit_read_step};
 ghost use Rattle.dirac_blocks.specs.Grammar.{units_step};
-ghost use Rattle.dirac_blocks.specs.Reached.{IsUnit, Moves, SameShape};
+ghost use Rattle.dirac_blocks.specs.Reached.{IsFirstOfUnit, StepMoves, SameShape};
 
 use crate::parts::ListKind;
 use crate::unit_reader::read_unit_block;
@@ -19,11 +19,12 @@ fn read_unit(
     i: u32,
     j: u32,
 ) -> Result<(), Cause>
-    requires unit { IsUnit table.old size i j }
+    requires unit { IsFirstOfUnit table.old size i j }
     requires column { i < 4 * table.old.across }
     requires row { j < 4 * table.old.down }
     requires no_overflow { decoder.old.at.doublings < 2 ^ 60 }
-    ensures value { Moves result table.new decoder.new (read (unit_step part size i j table.old) decoder.old) }
+    ensures value { StepMoves result table.new decoder.new
+        (read_coded (unit_read_step part size i j table.old) decoder.old) }
     ensures shape { SameShape table.old table.new }
     ensures few_doublings { decoder.new.at.doublings ≤ decoder.old.at.doublings + 702 }
 {
@@ -46,49 +47,23 @@ fn read_unit_row(
     j: u32,
     count: u32,
 ) -> Result<(), Cause>
-    requires units { (u : ℕ) → u < count → IsUnit table.old size (i + u * size) j }
+    requires units { (u : ℕ) → u < count → IsFirstOfUnit table.old size (i + u * size) j }
     requires size { 1 ≤ size }
     requires column { i + count * size ≤ 4 * table.old.across }
     requires row { j < 4 * table.old.down }
     requires at_most_1024 { table.old.across ≤ MOST_SUPERBLOCKS }
     requires no_overflow { decoder.old.at.doublings < 2 ^ 59 }
     requires at_most_4 { count ≤ 4 }
-    ensures value { Moves result table.new decoder.new (read (unit_row_step part size i j count table.old)
+    ensures value { StepMoves result table.new decoder.new (read_coded (unit_row_step part size i j count table.old)
         decoder.old) }
     ensures shape { SameShape table.old table.new }
     ensures few_doublings { decoder.new.at.doublings ≤ decoder.old.at.doublings + 702 * count }
 {
     'units: for n in 0..count {
-        read_unit(decoder, table, part, size, i + n * size, j)?;
-    }
-    Ok(())
-}
-
-/// Reads the units of a superblock whose first block is block `i` of row `j`: `across` rows of `across` units each.
-fn read_unit_rows(
-    decoder: &mut Decoder<'_>,
-    table: &mut BlockData,
-    part: ListKind,
-    size: u32,
-    across: u32,
-    i: u32,
-    j: u32,
-) -> Result<(), Cause>
-    requires units { (u v : ℕ) → u < across → v < across → IsUnit table.old size (i + u * size) (j + v * size) }
-    requires size { 1 ≤ size }
-    requires column { i + across * size ≤ 4 * table.old.across }
-    requires row { j + across * size ≤ 4 * table.old.down }
-    requires most_across { table.old.across ≤ MOST_SUPERBLOCKS }
-    requires most_down { table.old.down ≤ MOST_SUPERBLOCKS }
-    requires no_overflow { decoder.old.at.doublings < 2 ^ 58 }
-    requires at_most_4 { across ≤ 4 }
-    ensures value { Moves result table.new decoder.new (read (unit_rows_step part size across i j across table.old)
-        decoder.old) }
-    ensures shape { SameShape table.old table.new }
-    ensures few_doublings { decoder.new.at.doublings ≤ decoder.old.at.doublings + 2808 * across }
-{
-    'rows: for n in 0..across {
-        read_unit_row(decoder, table, part, size, i, j + n * size, across)?;
+        match read_unit(decoder, table, part, size, i + n * size, j) {
+            Ok(()) => {}
+            Err(cause) => return Err(cause),
+        }
     }
     Ok(())
 }
@@ -103,17 +78,25 @@ fn read_superblock(
 ) -> Result<(), Cause>
     requires column { sx < table.old.across }
     requires row { sy < table.old.down }
-    requires most_across { table.old.across ≤ MOST_SUPERBLOCKS }
-    requires most_down { table.old.down ≤ MOST_SUPERBLOCKS }
     requires no_overflow { decoder.old.at.doublings < 2 ^ 57 }
-    ensures value { Moves result table.new decoder.new (read (superblock_step part sy sx table.old) decoder.old) }
+    ensures value { StepMoves result table.new decoder.new
+        (read_coded (superblock_step part sy sx table.old) decoder.old) }
     ensures shape { SameShape table.old table.new }
     ensures few_doublings { decoder.new.at.doublings ≤ decoder.old.at.doublings + 11232 }
 {
     let split = table.split(sx, sy);
     let size = unit_blocks(split) as u32;
     let across = units_across(split) as u32;
-    read_unit_rows(decoder, table, part, size, across, 4 * sx, 4 * sy)
+    let left = 4 * sx;
+    let top = 4 * sy;
+    'rows: for n in 0..across {
+        let row = top + n * size;
+        match read_unit_row(decoder, table, part, size, left, row, across) {
+            Ok(()) => {}
+            Err(cause) => return Err(cause),
+        }
+    }
+    Ok(())
 }
 
 /// Reads the first `count` superblocks of row `sy`.
@@ -126,39 +109,18 @@ fn read_superblock_row(
 ) -> Result<(), Cause>
     requires column { count ≤ table.old.across }
     requires row { sy < table.old.down }
-    requires most_across { table.old.across ≤ MOST_SUPERBLOCKS }
-    requires most_down { table.old.down ≤ MOST_SUPERBLOCKS }
     requires no_overflow { decoder.old.at.doublings < 2 ^ 56 }
-    ensures value { Moves result table.new decoder.new (read (repeated (superblock_step part sy) count table.old)
+    ensures value { StepMoves result table.new decoder.new
+        (read_coded (repeated (superblock_step part sy) count table.old)
         decoder.old) }
     ensures shape { SameShape table.old table.new }
     ensures few_doublings { decoder.new.at.doublings ≤ decoder.old.at.doublings + 11232 * count }
 {
     'superblocks: for n in 0..count {
-        read_superblock(decoder, table, part, n, sy)?;
-    }
-    Ok(())
-}
-
-/// Reads the first `count` rows of superblocks, `across` in each: all that there are in a row.
-fn read_superblock_rows(
-    decoder: &mut Decoder<'_>,
-    table: &mut BlockData,
-    part: ListKind,
-    across: u32,
-    count: u32,
-) -> Result<(), Cause>
-    requires column { across ≤ table.old.across }
-    requires row { count ≤ table.old.down }
-    requires most_across { table.old.across ≤ MOST_SUPERBLOCKS }
-    requires most_down { table.old.down ≤ MOST_SUPERBLOCKS }
-    requires at_the_start { decoder.old.at.doublings ≡ 0 }
-    ensures value { Moves result table.new decoder.new (read (repeated (λ sy. repeated (superblock_step part sy) across)
-        count table.old) decoder.old) }
-    ensures shape { SameShape table.old table.new }
-{
-    'rows: for n in 0..count {
-        read_superblock_row(decoder, table, part, n, across)?;
+        match read_superblock(decoder, table, part, n, sy) {
+            Ok(()) => {}
+            Err(cause) => return Err(cause),
+        }
     }
     Ok(())
 }
@@ -170,10 +132,16 @@ pub fn read_units(
     part: ListKind,
 ) -> Result<(), Cause>
     requires at_the_start { decoder.old.at.doublings ≡ 0 }
-    ensures value { Moves result table.new decoder.new (read (units_step part table.old) decoder.old) }
+    ensures value { StepMoves result table.new decoder.new (read_coded (units_step part table.old) decoder.old) }
     ensures shape { SameShape table.old table.new }
 {
     let across = table.across();
     let down = table.down();
-    read_superblock_rows(decoder, table, part, across, down)
+    'rows: for n in 0..down {
+        match read_superblock_row(decoder, table, part, n, across) {
+            Ok(()) => {}
+            Err(cause) => return Err(cause),
+        }
+    }
+    Ok(())
 }

@@ -1,10 +1,8 @@
-ghost use Rattle.std.specs.Prelude.{◌≡◌, ◌-◌, ◌-ℤ◌, ◌*◌, ◌^◌, ◌<◌, length, option_map, OnOk, unsigned_abs};
-ghost use Rattle.std.specs.Option.{ForSome};
+ghost use Rattle.std.specs.Prelude.{◌≡◌, ◌-ℤ◌, ◌*◌, ◌<◌, length, OnOk};
 ghost use Rattle.dirac_arith.specs.Interval.{narrowed_by};
 ghost use Rattle.dirac_arith.specs.Spelling.{AreContexts, signed_spelling};
 ghost use Rattle.dirac_vectors.specs.Neighbours.{IsShort};
-ghost use Rattle.dirac_vectors.specs.Predictions.{IsShortVector};
-ghost use Rattle.dirac_blocks.specs.Decisions.{differ, less_prediction, mode_part};
+ghost use Rattle.dirac_blocks.specs.Decisions.{differ, mode_part};
 ghost use Rattle.dirac_blocks.specs.Parts.{part_at};
 
 use crate::parts::ListKind;
@@ -15,7 +13,7 @@ use dirac_arith::{
 use dirac_block_table::{
     BlockData, Reference, dc, predicted_dc, predicted_use_bit, predicted_vector, vector,
 };
-use dirac_common::{Component, NoMemory, Vector};
+use dirac_common::{Component, NoMemory};
 
 /// Whether two bits differ.
 pub fn differs(a: bool, b: bool) -> bool
@@ -25,40 +23,6 @@ pub fn differs(a: bool, b: bool) -> bool
         true => !b,
         false => b,
     }
-}
-
-/// The horizontal component of a vector.
-fn x_of(v: Option<Vector>) -> Option<i32>
-    requires { ForSome v IsShortVector }
-    ensures value { result ≡ option_map (λ v. v.x) v }
-    ensures short { ForSome result IsShort }
-{
-    match v {
-        Some(v) => Some(v.x),
-        None => None,
-    }
-}
-
-/// The vertical component of a vector.
-fn y_of(v: Option<Vector>) -> Option<i32>
-    requires { ForSome v IsShortVector }
-    ensures value { result ≡ option_map (λ v. v.y) v }
-    ensures short { ForSome result IsShort }
-{
-    match v {
-        Some(v) => Some(v.y),
-        None => None,
-    }
-}
-
-/// A value less its prediction.
-fn difference_of(value: i32, prediction: i32) -> i64
-    requires value { IsShort value }
-    requires prediction { IsShort prediction }
-    ensures value { result ≡ value -ℤ prediction }
-    ensures small { unsigned_abs result < 2 ^ 39 - 1 }
-{
-    i64::from(value) - i64::from(prediction)
 }
 
 /// Writes a value less its prediction.
@@ -79,31 +43,8 @@ fn write_less(
     ensures { OnOk result (encoder.new ≡ narrowed_by encoder.old
         (signed_spelling follow.now bits sign (value -ℤ prediction))) }
 {
-    encoder.signed(follow, bits, sign, difference_of(value, prediction))
-}
-
-/// Writes a value, where there is one, less its prediction.
-fn write_difference(
-    encoder: &mut Encoder,
-    follow: &[u8],
-    bits: u8,
-    sign: u8,
-    prediction: i32,
-    value: Option<i32>,
-) -> Result<(), NoMemory>
-    requires not_empty { 0 < length follow.now }
-    requires follow { AreContexts follow.now }
-    requires bits { bits < CONTEXTS }
-    requires sign { sign < CONTEXTS }
-    requires prediction { IsShort prediction }
-    requires value { ForSome value IsShort }
-    ensures { OnOk result (encoder.new ≡ narrowed_by encoder.old
-        (less_prediction follow.now bits sign prediction value)) }
-{
-    match value {
-        None => Ok(()),
-        Some(v) => write_less(encoder, follow, bits, sign, prediction, v),
-    }
+    let difference = i64::from(value) - i64::from(prediction);
+    encoder.signed(follow, bits, sign, difference)
 }
 
 /// Writes which references a unit uses, by its first block.
@@ -114,12 +55,16 @@ fn write_modes(encoder: &mut Encoder, table: &BlockData, i: u32, j: u32) -> Resu
 {
     let block = table.at(i, j);
     let first = predicted_use_bit(table, Reference::First, i, j);
-    encoder.decision(REFERENCE_1, differs(block.ref1, first))?;
-    if table.refs() == 2 {
-        let second = predicted_use_bit(table, Reference::Second, i, j);
-        encoder.decision(REFERENCE_2, differs(block.ref2, second))?;
+    match encoder.decision(REFERENCE_1, differs(block.ref1, first)) {
+        Ok(()) => {
+            if table.refs() != 2 {
+                return Ok(());
+            }
+            let second = predicted_use_bit(table, Reference::Second, i, j);
+            encoder.decision(REFERENCE_2, differs(block.ref2, second))
+        }
+        Err(e) => Err(e),
     }
-    Ok(())
 }
 
 /// Writes the horizontal component of a unit's vector, by its first block.
@@ -135,15 +80,17 @@ fn write_across(
     ensures { OnOk result (encoder.new ≡ narrowed_by encoder.old (part_at (ListKind.Across reference) table.now i j)) }
 {
     let prediction = predicted_vector(table, reference, i, j);
-    let value = x_of(vector(table, reference, i, j));
-    write_difference(
-        encoder,
-        &VECTOR_FOLLOW,
-        VECTOR_DIGITS,
-        VECTOR_SIGN,
-        prediction.x,
-        value,
-    )
+    match vector(table, reference, i, j) {
+        None => Ok(()),
+        Some(v) => write_less(
+            encoder,
+            &VECTOR_FOLLOW,
+            VECTOR_DIGITS,
+            VECTOR_SIGN,
+            prediction.x,
+            v.x,
+        ),
+    }
 }
 
 /// Writes the vertical component of a unit's vector, by its first block.
@@ -159,15 +106,17 @@ fn write_down(
     ensures { OnOk result (encoder.new ≡ narrowed_by encoder.old (part_at (ListKind.Down reference) table.now i j)) }
 {
     let prediction = predicted_vector(table, reference, i, j);
-    let value = y_of(vector(table, reference, i, j));
-    write_difference(
-        encoder,
-        &VECTOR_FOLLOW,
-        VECTOR_DIGITS,
-        VECTOR_SIGN,
-        prediction.y,
-        value,
-    )
+    match vector(table, reference, i, j) {
+        None => Ok(()),
+        Some(v) => write_less(
+            encoder,
+            &VECTOR_FOLLOW,
+            VECTOR_DIGITS,
+            VECTOR_SIGN,
+            prediction.y,
+            v.y,
+        ),
+    }
 }
 
 /// Writes a DC value of a unit, by its first block.
@@ -183,8 +132,10 @@ fn write_dc(
     ensures { OnOk result (encoder.new ≡ narrowed_by encoder.old (part_at (ListKind.Dc component) table.now i j)) }
 {
     let prediction = predicted_dc(table, component, i, j);
-    let value = dc(table, component, i, j);
-    write_difference(encoder, &DC_FOLLOW, DC_DIGITS, DC_SIGN, prediction, value)
+    match dc(table, component, i, j) {
+        None => Ok(()),
+        Some(value) => write_less(encoder, &DC_FOLLOW, DC_DIGITS, DC_SIGN, prediction, value),
+    }
 }
 
 /// Writes what this list tells of a unit, by its first block.

@@ -8,7 +8,7 @@ ghost use Rattle.dirac_blocks.specs.Decisions.{unit_decisions};
 ghost use Rattle.dirac_blocks.specs.Grammar.{blocks as blocks_grammar};
 ghost use Rattle.dirac_blocks.specs.Parts.{part_at};
 ghost use Rattle.dirac_block_table.specs.Tables.{IsBlockTable};
-ghost use Rattle.dirac_blocks.specs.Written.{AreShort, with_block, with_lists};
+ghost use Rattle.dirac_blocks.specs.Written.{ListsHaveShortBlocks, with_block, with_lists};
 
 use crate::list_writer::{part_block, split_block};
 use crate::parts::ListKind;
@@ -30,9 +30,13 @@ fn write_block(w: &mut BitWriter, block: &[u8]) -> Result<(), NoMemory>
     if len >= BLOCK_LIMIT {
         return Err(NoMemory);
     }
-    w.uint(len)?;
-    w.align()?;
-    w.block(block)
+    match w.uint(len) {
+        Ok(()) => match w.align() {
+            Ok(()) => w.block(block),
+            Err(e) => Err(e),
+        },
+        Err(e) => Err(e),
+    }
 }
 
 /// Writes the block of the split numbers.
@@ -44,8 +48,10 @@ fn write_splits(alloc: Global, w: &mut BitWriter, table: &BlockData) -> Result<(
     ensures short { OnOk result (length (flush (split_rows table.now.across (least_numbers table.now) table.now.down)) +
         1 < 2 ^ 39) }
 {
-    let block = split_block(alloc, table)?;
-    write_block(w, block.as_slice())
+    match split_block(alloc, table) {
+        Ok(block) => write_block(w, block.as_slice()),
+        Err(NoMemory) => Err(NoMemory),
+    }
 }
 
 /// Writes the block of what a list tells of each unit.
@@ -60,8 +66,10 @@ fn write_part(
         (with_block (flush (unit_decisions table.now (part_at part table.now))) w.old)) }
     ensures short { OnOk result (length (flush (unit_decisions table.now (part_at part table.now))) + 1 < 2 ^ 39) }
 {
-    let block = part_block(alloc, table, part)?;
-    write_block(w, block.as_slice())
+    match part_block(alloc, table, part) {
+        Ok(block) => write_block(w, block.as_slice()),
+        Err(e) => Err(e),
+    }
 }
 
 /// Writes the blocks of both components of the vectors of a reference.
@@ -77,18 +85,21 @@ fn write_vectors(
     ensures front { OnErr result (HoldsFront w.old w.new (with_lists (unit_decisions table.now
         (part_at (ListKind.Across reference) table.now) ∷ unit_decisions table.now
         (part_at (ListKind.Down reference) table.now) ∷ []) w.old)) }
-    ensures short { OnOk result (AreShort (unit_decisions table.now (part_at (ListKind.Across reference) table.now)
+    ensures short { OnOk result
+        (ListsHaveShortBlocks (unit_decisions table.now (part_at (ListKind.Across reference) table.now)
         ∷ unit_decisions table.now (part_at (ListKind.Down reference) table.now) ∷ [])) }
 {
-    write_part(alloc, w, table, ListKind::Across(reference))?;
-    write_part(alloc, w, table, ListKind::Down(reference))
+    match write_part(alloc, w, table, ListKind::Across(reference)) {
+        Ok(()) => write_part(alloc, w, table, ListKind::Down(reference)),
+        Err(e) => Err(e),
+    }
 }
 
 /// Writes the blocks of the second reference, where there is one.
 fn write_second(alloc: Global, w: &mut BitWriter, table: &BlockData) -> Result<(), NoMemory>
     ensures exact { OnOk result (w.new ≡ with_lists (second_lists table.now) w.old) }
     ensures front { OnErr result (HoldsFront w.old w.new (with_lists (second_lists table.now) w.old)) }
-    ensures short { OnOk result (AreShort (second_lists table.now)) }
+    ensures short { OnOk result (ListsHaveShortBlocks (second_lists table.now)) }
     ensures lawful { IsBlockTable table.now }
 {
     if table.refs() == 2 {
@@ -107,13 +118,18 @@ fn write_dcs(alloc: Global, w: &mut BitWriter, table: &BlockData) -> Result<(), 
         (part_at (ListKind.Dc Component.Y) table.now) ∷ unit_decisions table.now
         (part_at (ListKind.Dc Component.U) table.now) ∷ unit_decisions table.now
         (part_at (ListKind.Dc Component.V) table.now) ∷ []) w.old)) }
-    ensures short { OnOk result (AreShort (unit_decisions table.now (part_at (ListKind.Dc Component.Y) table.now)
+    ensures short { OnOk result
+        (ListsHaveShortBlocks (unit_decisions table.now (part_at (ListKind.Dc Component.Y) table.now)
         ∷ unit_decisions table.now (part_at (ListKind.Dc Component.U) table.now)
         ∷ unit_decisions table.now (part_at (ListKind.Dc Component.V) table.now) ∷ [])) }
 {
-    write_part(alloc, w, table, ListKind::Dc(Component::Y))?;
-    write_part(alloc, w, table, ListKind::Dc(Component::U))?;
-    write_part(alloc, w, table, ListKind::Dc(Component::V))
+    match write_part(alloc, w, table, ListKind::Dc(Component::Y)) {
+        Ok(()) => match write_part(alloc, w, table, ListKind::Dc(Component::U)) {
+            Ok(()) => write_part(alloc, w, table, ListKind::Dc(Component::V)),
+            Err(e) => Err(e),
+        },
+        Err(e) => Err(e),
+    }
 }
 
 /// Writes a block table (motion data, Dirac specification, section 12): for each of its lists a length and an
@@ -128,9 +144,17 @@ pub fn write_blocks(alloc: Global, w: &mut BitWriter, blocks: &BlockData) -> Res
     ensures spelled { OnOk result (SpelledBehind (blocks_grammar blocks.now.across blocks.now.down blocks.now.refs)
         blocks.now w.old w.new) }
 {
-    write_splits(alloc, w, blocks)?;
-    write_part(alloc, w, blocks, ListKind::Modes)?;
-    write_vectors(alloc, w, blocks, Reference::First)?;
-    write_second(alloc, w, blocks)?;
-    write_dcs(alloc, w, blocks)
+    match write_splits(alloc, w, blocks) {
+        Ok(()) => match write_part(alloc, w, blocks, ListKind::Modes) {
+            Ok(()) => match write_vectors(alloc, w, blocks, Reference::First) {
+                Ok(()) => match write_second(alloc, w, blocks) {
+                    Ok(()) => write_dcs(alloc, w, blocks),
+                    Err(e) => Err(e),
+                },
+                Err(e) => Err(e),
+            },
+            Err(e) => Err(e),
+        },
+        Err(e) => Err(e),
+    }
 }

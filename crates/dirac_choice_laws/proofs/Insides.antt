@@ -17,7 +17,7 @@ use Rattle.dirac_picture.specs.Grammar.{is_intra}
 use Rattle.dirac_picture.specs.declared.coded.CodedMotion.{CodedMotion}
 use Rattle.dirac_content.specs.Content.{named}
 use Rattle.dirac_decide.specs.Deciding.{deciding}
-use Rattle.dirac_decide.specs.Units.{blocks_of}
+use Rattle.dirac_decide.specs.Units.{decided_blocks}
 use Rattle.dirac_decide.proofs.Accepted.{across_within, down_within, grid_within, precision_within}
 use Rattle.dirac_decide_laws.proofs.Insides.{tables_inside}
 use Rattle.dirac_plan.specs.Plan.{plan}
@@ -55,7 +55,7 @@ from_inside s p first second a is some =
     let d = deciding s p (view_in s p first) (option_map (view_in s p) second) in
     let grid = grid_within s.blocks in
     let chroma = (sequence_of s).chroma in
-    let blocks : AreBlocks (blocks_of d) = record { columns = grid.columns.1; rows = grid.rows.1; across_ratio = across_within chroma; down_ratio = down_within chroma } in
+    let blocks : AreBlocks (decided_blocks d) = record { columns = grid.columns.1; rows = grid.rows.1; across_ratio = across_within chroma; down_ratio = down_within chroma } in
     subst (λ (n : ℕ). VectorsKeepInside (sized s n (picture_height (sequence_of s))) s.precision (blocks_from s p first second)) is.across
     (subst (λ (n : ℕ). VectorsKeepInside (sized s p.y.width n) s.precision (blocks_from s p first second)) is.down
     (tables_inside d (record { blocks = blocks; precision = precision_within s a }) some))

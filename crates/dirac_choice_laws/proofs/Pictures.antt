@@ -13,7 +13,7 @@ use Rattle.dirac_plan.specs.Plan.{plan}
 use Rattle.dirac_plan.specs.declared.planned.Planned.{Planned}
 use Rattle.dirac_plan_laws.specs.Headers.{IsPlanned, header_of}
 use Rattle.dirac_plan_laws.specs.Plans.{PlansCanBeCoded}
-use Rattle.dirac_plan_laws.specs.References.{AreFound}
+use Rattle.dirac_plan_laws.specs.References.{ReferencesAreFound}
 use Rattle.dirac_motion.specs.Chosen.{at_index, blocks_among, blocks_from, chosen, searched_in}
 use Rattle.dirac_motion.proofs.Indices.{chosen_same}
 use Rattle.dirac_sources.specs.Sources.{sources, whole_pictures}
@@ -68,7 +68,7 @@ inter_least f t refs j planned found inter =
     (motion_is t refs j.planned j.source (f t refs j) (is_intra j.planned.code) inter)
 
 -- one after another
-all_least : (f : IndexRule) (t : Settings) (pictures refs : List Picture) (qs : List Planned) → AllByRecursion IsPlanned qs → AreFound refs qs (map shown_of (coded_under f t refs (map (job_of pictures) qs)))
+all_least : (f : IndexRule) (t : Settings) (pictures refs : List Picture) (qs : List Planned) → AllByRecursion IsPlanned qs → ReferencesAreFound refs qs (map shown_of (coded_under f t refs (map (job_of pictures) qs)))
     → AreLeastInters f t refs (map (job_of pictures) qs)
 unfolding coded_under
 all_least f t pictures refs [] codes found = tt

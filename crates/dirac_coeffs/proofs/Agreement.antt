@@ -5,26 +5,26 @@ use Rattle.std.proofs.lemmas.Bool.{cases_eq}
 use Rattle.std.proofs.Math.Numerals.{unary_clauses}
 use Rattle.dirac_arith.specs.Interval.{Decision}
 use Rattle.dirac_arith.specs.Spelling.{signed_spelling}
-use Rattle.dirac_coeffs.specs.Contexts.{value_at, left_of, above_of, corner_of, bits_context}
+use Rattle.dirac_coeffs.specs.Contexts.{band_value, value_left_of, value_above, value_in_corner, bits_context}
 use Rattle.dirac_coeffs.specs.Decisions.{Frame, follow_here, sign_here, value_part, row_part, rows_part}
 use Rattle.dirac_coeffs.proofs.Places.{SameWithin}
 use Rattle.dirac_coeffs.proofs.Within.{same_less}
 
-left_same : (w : ℕ) (xs ys : List ℤ) (x y : ℕ) → x < w → SameWithin w xs ys x (y + 1) → left_of w xs x y ≡ left_of w ys x y
+left_same : (w : ℕ) (xs ys : List ℤ) (x y : ℕ) → x < w → SameWithin w xs ys x (y + 1) → value_left_of w xs x y ≡ value_left_of w ys x y
 left_same w xs ys x y h s =
     elim (cases_eq x 0) [
       | inl e ↦ rw (eq-eqb x 0 e) refl
       | inr n ↦ rw (ne_eqb x 0 n) (s.each (x - 1) y (omega arith) (omega arith) (omega arith))
     ]
 
-above_same : (w : ℕ) (xs ys : List ℤ) (x y : ℕ) → x < w → SameWithin w xs ys (x + 1) y → above_of w xs x y ≡ above_of w ys x y
+above_same : (w : ℕ) (xs ys : List ℤ) (x y : ℕ) → x < w → SameWithin w xs ys (x + 1) y → value_above w xs x y ≡ value_above w ys x y
 above_same w xs ys x y h s =
     elim (cases_eq y 0) [
       | inl e ↦ rw (eq-eqb y 0 e) refl
       | inr n ↦ rw (ne_eqb y 0 n) (s.each x (y - 1) h (omega arith) (omega arith))
     ]
 
-corner_same : (w : ℕ) (xs ys : List ℤ) (x y : ℕ) → x < w → SameWithin w xs ys (x + 1) y → corner_of w xs x y ≡ corner_of w ys x y
+corner_same : (w : ℕ) (xs ys : List ℤ) (x y : ℕ) → x < w → SameWithin w xs ys (x + 1) y → value_in_corner w xs x y ≡ value_in_corner w ys x y
 corner_same w xs ys x y h s =
     elim (cases_eq x 0) [
       | inl e ↦ rw (eq-eqb x 0 e) refl
@@ -40,13 +40,13 @@ value_here f xs x y v = signed_spelling (follow_here f xs x y) bits_context (sig
 
 -- the contexts of a value are read off the places before it
 pub value_contexts : (f : Frame) (xs ys : List ℤ) (x y : ℕ) → x < f.width → SameWithin f.width xs ys x (y + 1) → SameWithin f.width xs ys (x + 1) y
-    → value_part f ys x y ≡ value_here f xs x y (value_at f.width ys x y)
+    → value_part f ys x y ≡ value_here f xs x y (band_value f.width ys x y)
 value_contexts f xs ys x y h s t =
     rw (left_same f.width xs ys x y h s, above_same f.width xs ys x y h t, corner_same f.width xs ys x y h t) refl
 
 value_same : (f : Frame) (xs ys : List ℤ) (x y : ℕ) → x < f.width → SameWithin f.width xs ys (x + 1) (y + 1) → value_part f xs x y ≡ value_part f ys x y
 value_same f xs ys x y h s =
-    let here : value_at f.width xs x y ≡ value_at f.width ys x y = s.each x y h (omega arith) (omega arith) in
+    let here : band_value f.width xs x y ≡ band_value f.width ys x y = s.each x y h (omega arith) (omega arith) in
     let contexts = value_contexts f xs ys x y h (same_less (omega arith) (omega arith) s) (same_less (omega arith) (omega arith) s) in
     ap (λ v. value_here f xs x y v) here ∙ sym contexts
 

@@ -8,7 +8,7 @@ use Rattle.dirac_coeffs.specs.Carried.{SkippedIsZero}
 use Rattle.dirac_coeffs.specs.Indices.{offset_part}
 use Rattle.dirac_coeffs.specs.Decisions.{Mark, Marks, frame_of, flagged_part, block_part, blocks_part, bands_part}
 use Rattle.dirac_coeffs.proofs.Places.{SameWithin}
-use Rattle.dirac_coeffs.specs.Layouts.{IsBandLayout, span_of, is_flagged}
+use Rattle.dirac_coeffs.specs.Layouts.{IsBandLayout, codeblock_extent, is_flagged}
 use Rattle.dirac_coeffs.proofs.Agreement.{rows_same}
 use Rattle.dirac_coeffs.proofs.Edges.{edge_rises, edge_last, span_end, span_inside}
 use Rattle.dirac_coeffs.proofs.Within.{same_less}
@@ -19,8 +19,8 @@ block_same : (layout : BandLayout) (parent xs ys : List ℤ) (cy cx : ℕ) (mark
 block_same layout parent xs ys cy cx mark is h s =
     let left = edge_of layout.width layout.across cx in
     let top = edge_of layout.height layout.down cy in
-    let columns = span_of layout.width layout.across cx in
-    let rows = span_of layout.height layout.down cy in
+    let columns = codeblock_extent layout.width layout.across cx in
+    let rows = codeblock_extent layout.height layout.down cy in
     let right : left + columns ≡ edge_of layout.width layout.across (cx + 1) = span_end layout.width layout.across cx (omega (arith, is.across)) in
     let bottom : top + rows ≡ edge_of layout.height layout.down (cy + 1) = span_end layout.height layout.down cy (omega (arith, is.down)) in
     let inner : SameWithin layout.width xs ys (left + columns) (top + rows) = same_less (omega arith) (omega arith) s in
@@ -71,7 +71,7 @@ pub zeros_same : (layout : BandLayout) (xs ys : List ℤ) (cy cx : ℕ) (mark : 
     → SkippedIsZero layout xs cy cx mark → SkippedIsZero layout ys cy cx mark
 zeros_same layout xs ys cy cx mark is h s z =
     λ flagged skipped i j p q.
-    let right : edge_of layout.width layout.across cx + span_of layout.width layout.across cx ≡ edge_of layout.width layout.across (cx + 1) = span_end layout.width layout.across cx (omega (arith, is.across)) in
-    let bottom : edge_of layout.height layout.down cy + span_of layout.height layout.down cy ≡ edge_of layout.height layout.down (cy + 1) = span_end layout.height layout.down cy (omega (arith, is.down)) in
+    let right : edge_of layout.width layout.across cx + codeblock_extent layout.width layout.across cx ≡ edge_of layout.width layout.across (cx + 1) = span_end layout.width layout.across cx (omega (arith, is.across)) in
+    let bottom : edge_of layout.height layout.down cy + codeblock_extent layout.height layout.down cy ≡ edge_of layout.height layout.down (cy + 1) = span_end layout.height layout.down cy (omega (arith, is.down)) in
     let inside = span_inside layout.width layout.across cx h in
     sym (s.each (edge_of layout.width layout.across cx + i) (edge_of layout.height layout.down cy + j) (omega arith) (omega arith) (omega arith)) ∙ z flagged skipped i j p q

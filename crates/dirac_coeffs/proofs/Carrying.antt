@@ -3,21 +3,21 @@ use Rattle.std.proofs.Common.{◌≡◌, ◌≢◌, ℕ, ℤ, pos, ◌+◌, ◌-
 use Rattle.std.proofs.lemmas.Bool.{cases_eq, ne_eqb}
 use Rattle.std.proofs.lemmas.List.{get_or-set_same, get_or-set_other}
 use Rattle.dirac_common.specs.declared.faults.Cause.{Cause}
-use Rattle.dirac_arith.specs.Coded.{read}
+use Rattle.dirac_arith.specs.Coded.{read_coded}
 use Rattle.dirac_arith.specs.Deciding.{signed_read}
 use Rattle.dirac_arith.specs.Reading.{Reading}
 use Rattle.dirac_coeffs.specs.BandRead.{value_step}
-use Rattle.dirac_coeffs.specs.Contexts.{above_of, bits_context, corner_of, left_of, value_at}
+use Rattle.dirac_coeffs.specs.Contexts.{value_above, bits_context, value_in_corner, value_left_of, band_value}
 use Rattle.dirac_coeffs.specs.Decisions.{Frame, follow_here, sign_here}
 
 -- a value is to the left of the next one
-pub left_behind : (w : ℕ) (xs : List ℤ) (x y n : ℕ) → n ≡ x + 1 → value_at w xs x y ≡ left_of w xs n y
+pub left_behind : (w : ℕ) (xs : List ℤ) (x y n : ℕ) → n ≡ x + 1 → band_value w xs x y ≡ value_left_of w xs n y
 left_behind w xs x y n e =
     let back : n - 1 ≡ x = omega arith in
     rw (ne_eqb n 0 (omega arith)) (sym (ap (λ i. get_or xs (y * w + i) (pos 0)) back))
 
 -- what is above it is above that
-pub corner_behind : (w : ℕ) (xs : List ℤ) (x y n : ℕ) → n ≡ x + 1 → above_of w xs x y ≡ corner_of w xs n y
+pub corner_behind : (w : ℕ) (xs : List ℤ) (x y n : ℕ) → n ≡ x + 1 → value_above w xs x y ≡ value_in_corner w xs n y
 corner_behind w xs x y n e = elim (cases_eq y 0) [
   | inl first ↦ rw (ne_eqb n 0 (omega arith), eq-eqb y 0 first) refl
   | inr other ↦
@@ -26,11 +26,11 @@ corner_behind w xs x y n e = elim (cases_eq y 0) [
 ]
 
 -- what was read is to the left of what is read next
-pub left_next : (w : ℕ) (xs : List ℤ) (x y n : ℕ) (v : ℤ) → y * w + x < length xs → n ≡ x + 1 → v ≡ left_of w (set xs (y * w + x) v) n y
+pub left_next : (w : ℕ) (xs : List ℤ) (x y n : ℕ) (v : ℤ) → y * w + x < length xs → n ≡ x + 1 → v ≡ value_left_of w (set xs (y * w + x) v) n y
 left_next w xs x y n v fits e = sym (get_or-set_same xs (y * w + x) v (pos 0) fits) ∙ left_behind w (set xs (y * w + x) v) x y n e
 
 -- what is above a place stays as that is written
-above_kept : (w : ℕ) (xs : List ℤ) (x y : ℕ) (v : ℤ) → x < w → above_of w xs x y ≡ above_of w (set xs (y * w + x) v) x y
+above_kept : (w : ℕ) (xs : List ℤ) (x y : ℕ) (v : ℤ) → x < w → value_above w xs x y ≡ value_above w (set xs (y * w + x) v) x y
 above_kept w xs x y v fits = elim (cases_eq y 0) [
   | inl first ↦ rw (eq-eqb y 0 first) refl
   | inr other ↦
@@ -44,16 +44,16 @@ above_kept w xs x y v fits = elim (cases_eq y 0) [
     more m k = omega arith
 
 -- what was above is above that
-pub corner_next : (w : ℕ) (xs : List ℤ) (x y n : ℕ) (v above : ℤ) → x < w → above ≡ above_of w xs x y → n ≡ x + 1 → above ≡ corner_of w (set xs (y * w + x) v) n y
+pub corner_next : (w : ℕ) (xs : List ℤ) (x y n : ℕ) (v above : ℤ) → x < w → above ≡ value_above w xs x y → n ≡ x + 1 → above ≡ value_in_corner w (set xs (y * w + x) v) n y
 corner_next w xs x y n v above fits h e = h ∙ above_kept w xs x y v fits ∙ corner_behind w (set xs (y * w + x) v) x y n e
 
 -- a value that was read, put in its place
 pub value_put : (f : Frame) (x y : ℕ) (xs ys : List ℤ) (v : ℤ) (old new : Reading) → signed_read (follow_here f xs x y) bits_context (sign_here f xs x y) old ≡ Ok (v, new) → ys ≡ slice_set xs (y * f.width + x) v
-    → read (value_step f x y xs) old ≡ Ok (ys, new)
+    → read_coded (value_step f x y xs) old ≡ Ok (ys, new)
 unfolding value_step
 value_put f x y xs ys v old new found put = rw (found, put) refl
 
 -- a value that was refused
-pub value_stops : (f : Frame) (x y : ℕ) (xs : List ℤ) (old : Reading) (cause : Cause) → signed_read (follow_here f xs x y) bits_context (sign_here f xs x y) old ≡ Err cause → read (value_step f x y xs) old ≡ Err cause
+pub value_stops : (f : Frame) (x y : ℕ) (xs : List ℤ) (old : Reading) (cause : Cause) → signed_read (follow_here f xs x y) bits_context (sign_here f xs x y) old ≡ Err cause → read_coded (value_step f x y xs) old ≡ Err cause
 unfolding value_step
 value_stops f x y xs old cause refused = rw refused refl

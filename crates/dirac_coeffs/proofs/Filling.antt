@@ -3,15 +3,15 @@
 use Rattle.std.proofs.Common.{◌≡◌, ℕ, zero, suc, ℤ, pos, ◌+◌, ◌-◌, ◌*◌, ◌^◌, ◌<◌, ◌≤◌, List, [], ◌++◌, length, set, unsigned_abs, refl, sym, ap, ap₂, ◌∙◌, subst, arith, append-nil}
 use Rattle.std.proofs.lemmas.List.{get_or-set_same}
 use Rattle.std.proofs.lemmas.List.Elements.{All-set}
-use Rattle.dirac_arith.specs.Coded.{Coded, Spells, repeated}
+use Rattle.dirac_arith.specs.Coded.{Coded, DecisionsSpell, repeated}
 use Rattle.dirac_arith.specs.Interval.{Decision}
 use Rattle.dirac_bands.specs.Geometry.{edge_of}
 use Rattle.dirac_coeffs.specs.declared.layout.BandLayout.{BandLayout}
 use Rattle.dirac_coeffs.specs.BandRead.{value_step, row_step, rows_step, filled_step}
 use Rattle.dirac_coeffs.specs.Carried.{AreSmall}
-use Rattle.dirac_coeffs.specs.Contexts.{value_at}
+use Rattle.dirac_coeffs.specs.Contexts.{band_value}
 use Rattle.dirac_coeffs.specs.Decisions.{Frame, frame_of, value_part, row_part, rows_part}
-use Rattle.dirac_coeffs.specs.Layouts.{IsBandLayout, span_of}
+use Rattle.dirac_coeffs.specs.Layouts.{IsBandLayout, codeblock_extent}
 use Rattle.dirac_coeffs.proofs.Agreement.{value_here, value_contexts, row_same, rows_same}
 use Rattle.dirac_coeffs.proofs.Edges.{rows_inside, span_end, span_inside}
 use Rattle.dirac_coeffs.proofs.Places.{KeptOutside, SameWithin}
@@ -49,10 +49,10 @@ value_stored f xs x y v h inside =
     let w = f.width in
     let ys = set xs (y * w + x) v in
     let k = set_kept w xs x y v h in
-    let here : v ≡ value_at w ys x y = sym (get_or-set_same xs (y * w + x) v (pos 0) inside) in
+    let here : v ≡ band_value w ys x y = sym (get_or-set_same xs (y * w + x) v (pos 0) inside) in
     ap (λ z. value_here f xs x y z) here ∙ sym (value_contexts f xs ys x y h (kept_left (omega arith) k) (kept_above (omega arith) k))
 
-value_told : (f : Frame) (xs zs : List ℤ) (x y : ℕ) (ds : List Decision) → x < f.width → y * f.width + x < length xs → Spells (value_step f x y xs) zs ds
+value_told : (f : Frame) (xs zs : List ℤ) (x y : ℕ) (ds : List Decision) → x < f.width → y * f.width + x < length xs → DecisionsSpell (value_step f x y xs) zs ds
     → Fills f.width x (x + 1) y (y + 1) xs zs (λ vs. value_part f vs x y) ds
 unfolding value_step
 value_told f xs zs x y ds h inside spells =
@@ -71,7 +71,7 @@ fills_none {w = w} {left = left} {right = right} {top = top} {bottom = bottom} {
     record { kept = subst (λ (vs : List ℤ). KeptOutside w left right top bottom xs vs) same kept_refl; small = λ all. subst AreSmall same all; is = e ∙ sym none }
 
 -- the first n values of a row
-row_told : (f : Frame) (xs zs : List ℤ) (x y h n : ℕ) (ds : List Decision) → x + n ≤ f.width → y < h → length xs ≡ f.width * h → Spells (row_step f y x n xs) zs ds
+row_told : (f : Frame) (xs zs : List ℤ) (x y h n : ℕ) (ds : List Decision) → x + n ≤ f.width → y < h → length xs ≡ f.width * h → DecisionsSpell (row_step f y x n xs) zs ds
     → Fills f.width x (x + n) y (y + 1) xs zs (λ vs. row_part f vs y x n) ds
 unfolding row_part repeated
 row_told f xs zs x y h zero ds wide low len spells = fills_none spells.0 spells.1 refl
@@ -82,7 +82,7 @@ row_told f xs zs x y h (suc n) ds wide low len spells =
     fills_join (omega arith, omega arith, omega arith, omega arith) (omega arith, omega arith, omega arith, omega arith) t.is (row_same f t.x zs x y n (omega arith) (kept_left (omega arith) b.kept)) a b
 
 -- the first n rows of a codeblock
-rows_told : (f : Frame) (xs zs : List ℤ) (x count y h n : ℕ) (ds : List Decision) → x + count ≤ f.width → y + n ≤ h → length xs ≡ f.width * h → Spells (rows_step f x count y n xs) zs ds
+rows_told : (f : Frame) (xs zs : List ℤ) (x count y h n : ℕ) (ds : List Decision) → x + count ≤ f.width → y + n ≤ h → length xs ≡ f.width * h → DecisionsSpell (rows_step f x count y n xs) zs ds
     → Fills f.width x (x + count) y (y + n) xs zs (λ vs. rows_part f vs x count y n) ds
 unfolding rows_part repeated
 rows_told f xs zs x count y h zero ds wide low len spells = fills_none spells.0 spells.1 refl
@@ -104,7 +104,7 @@ same_left h k s = record { each = λ x y p q t. sym (k.before x y p (omega arith
 -- decisions spell values which agree with the finished ones up to a column and a row
 pub record Leads (w right bottom : ℕ) (ys : List ℤ) (s : Coded (List ℤ)) (ds : List Decision) : Type 0 where
   pub zs : List ℤ
-  pub spells : Spells s zs ds
+  pub spells : DecisionsSpell s zs ds
   pub same : SameWithin w zs ys right bottom
 
 -- one value
@@ -114,7 +114,7 @@ value_leads : (f : Frame) (xs ys : List ℤ) (x y : ℕ) → AreSmall ys → x <
 unfolding value_step
 value_leads f xs ys x y small h inside len left over =
     let w = f.width in
-    let v = value_at w ys x y in
+    let v = band_value w ys x y in
     let few : unsigned_abs v < 2 ^ 39 - 1 = small (y * w + x) (pos 0) (omega arith) in
     let kept = set_kept w xs x y v h in
     record {
@@ -162,15 +162,15 @@ rows_lead f xs ys x count y rows h (suc n) small wide few low size len left over
 -- its values
 abbrev pub values_part : BandLayout → List ℤ → List ℤ → ℕ → ℕ → List Decision
 values_part layout parent xs cy cx =
-    rows_part (frame_of layout parent) xs (edge_of layout.width layout.across cx) (span_of layout.width layout.across cx) (edge_of layout.height layout.down cy) (span_of layout.height layout.down cy)
+    rows_part (frame_of layout parent) xs (edge_of layout.width layout.across cx) (codeblock_extent layout.width layout.across cx) (edge_of layout.height layout.down cy) (codeblock_extent layout.height layout.down cy)
 
-pub filled_told : (layout : BandLayout) (parent xs zs : List ℤ) (cy cx : ℕ) (ds : List Decision) → IsBandLayout layout → cy < layout.down → cx < layout.across → length xs ≡ layout.width * layout.height → Spells (filled_step layout parent cy cx xs) zs ds
+pub filled_told : (layout : BandLayout) (parent xs zs : List ℤ) (cy cx : ℕ) (ds : List Decision) → IsBandLayout layout → cy < layout.down → cx < layout.across → length xs ≡ layout.width * layout.height → DecisionsSpell (filled_step layout parent cy cx xs) zs ds
     → Fills layout.width (edge_of layout.width layout.across cx) (edge_of layout.width layout.across (cx + 1)) (edge_of layout.height layout.down cy) (edge_of layout.height layout.down (cy + 1)) xs zs (λ vs. values_part layout parent vs cy cx) ds
 filled_told layout parent xs zs cy cx ds is low left len spells =
     let x = edge_of layout.width layout.across cx in
     let y = edge_of layout.height layout.down cy in
-    let columns = span_of layout.width layout.across cx in
-    let rows = span_of layout.height layout.down cy in
+    let columns = codeblock_extent layout.width layout.across cx in
+    let rows = codeblock_extent layout.height layout.down cy in
     let right : x + columns ≡ edge_of layout.width layout.across (cx + 1) = span_end layout.width layout.across cx (omega arith) in
     let bottom : y + rows ≡ edge_of layout.height layout.down (cy + 1) = span_end layout.height layout.down cy (omega arith) in
     let P : ℕ → ℕ → Type 0 = λ r b. Fills layout.width x r y b xs zs (λ vs. values_part layout parent vs cy cx) ds in
@@ -183,8 +183,8 @@ pub filled_leads : (layout : BandLayout) (parent xs ys : List ℤ) (cy cx : ℕ)
 filled_leads layout parent xs ys cy cx low inside small size len left over =
     let x = edge_of layout.width layout.across cx in
     let y = edge_of layout.height layout.down cy in
-    let columns = span_of layout.width layout.across cx in
-    let rows = span_of layout.height layout.down cy in
+    let columns = codeblock_extent layout.width layout.across cx in
+    let rows = codeblock_extent layout.height layout.down cy in
     let right : x + columns ≡ edge_of layout.width layout.across (cx + 1) = span_end layout.width layout.across cx (omega arith) in
     let bottom : y + rows ≡ edge_of layout.height layout.down (cy + 1) = span_end layout.height layout.down cy (omega arith) in
     let led = rows_lead (frame_of layout parent) xs ys x columns y rows layout.height rows small (span_inside layout.width layout.across cx inside) (omega arith) (span_inside layout.height layout.down cy low) size (len ∙ sym size)

@@ -5,12 +5,12 @@ use Rattle.std.specs.List.{All}
 use Rattle.std.proofs.lemmas.Bool.{cases_lt, cases_Bool, false≢true}
 use Rattle.std.proofs.lemmas.Int.{ints}
 use Rattle.dirac_common.specs.Limits.{IsIndex}
-use Rattle.dirac_arith.specs.Coded.{Coded, Spells, and_then, done, repeated}
+use Rattle.dirac_arith.specs.Coded.{Coded, DecisionsSpell, and_then, done, repeated}
 use Rattle.dirac_arith.specs.Interval.{Decision}
 use Rattle.dirac_arith.specs.Spelling.{signed_spelling}
 use Rattle.dirac_bands.specs.Geometry.{edge_of}
 use Rattle.dirac_coeffs.specs.declared.layout.BandLayout.{BandLayout}
-use Rattle.dirac_coeffs.specs.BandRead.{Content, content, filled_step, offset_step, unskipped_step, skipped_content, unless, flagged_coded, block_step, blocks_step, block_rows_step}
+use Rattle.dirac_coeffs.specs.BandRead.{Content, band_content, filled_step, offset_step, unskipped_step, skipped_content, unless, flagged_coded, block_step, blocks_step, block_rows_step}
 use Rattle.dirac_coeffs.specs.Carried.{AreSmall, IsIndexed, SkippedIsZero}
 use Rattle.dirac_coeffs.specs.Decisions.{Mark, Marks, flagged_part, block_part, blocks_part, bands_part}
 use Rattle.dirac_coeffs.specs.Indices.{place_of, index_before, all_equal, is_index, offset_part, with_former}
@@ -70,7 +70,7 @@ fitting (pos n) h = (grind (arith, ints), refl)
 fitting (negsuc n) h = absurd (false≢true h)
 
 offset_told : (layout : BandLayout) (index : ℕ) (c : Content) (js : List ℕ) (cy cx mode : ℕ) (ds : List Decision) → cy < layout.down → cx < layout.across → Begun layout index c → layout.mode ≡ mode
-    → Spells (offset_step mode index (place_of layout cy cx) c.indices) js ds → OffsetTold layout index c.indices js cy cx mode ds
+    → DecisionsSpell (offset_step mode index (place_of layout cy cx) c.indices) js ds → OffsetTold layout index c.indices js cy cx mode ds
 unfolding offset_step
 offset_told layout index c js cy cx zero ds low left at e spells =
     subst (λ (ks : List ℕ). OffsetTold layout index c.indices ks cy cx zero ds) spells.0 (
@@ -88,7 +88,7 @@ offset_told layout index c js cy cx (suc m) ds low left at e spells =
       | inl fits ↦
           let i = unsigned_abs sum in
           let few = fitting sum fits in
-          let here = subst (λ (s : Coded ℕ). Spells (and_then s put) js spells.1) (from_index former offset fits) spells.4 in
+          let here = subst (λ (s : Coded ℕ). DecisionsSpell (and_then s put) js spells.1) (from_index former offset fits) spells.4 in
           subst (λ (ks : List ℕ). OffsetTold layout index c.indices ks cy cx (suc m) ds) here.0 (
           record {
             offset = offset;
@@ -97,7 +97,7 @@ offset_told layout index c js cy cx (suc m) ds low left at e spells =
             is = spells.3 ∙ ap (λ (l : List Decision). signed_spelling (19 ∷ []) 20 21 offset ++ l) here.1 ∙ append-nil (signed_spelling (19 ∷ []) 20 21 offset);
           }
           )
-      | inr out ↦ absurd (subst (λ (s : Coded ℕ). Spells (and_then s put) js spells.1) (from_none former offset out) spells.4)
+      | inr out ↦ absurd (subst (λ (s : Coded ℕ). DecisionsSpell (and_then s put) js spells.1) (from_none former offset out) spells.4)
     ]
 
 -- a codeblock's columns and rows, and its place
@@ -113,11 +113,11 @@ record UnskippedTold (layout : BandLayout) (parent : List ℤ) (index cy cx : �
   is : ds ≡ offset_part layout.mode offset ++ values_part layout parent d.values cy cx
 
 unskipped_told : (layout : BandLayout) (parent : List ℤ) (index cy cx : ℕ) (c d : Content) (ds : List Decision) → IsBandLayout layout → cy < layout.down → cx < layout.across → Begun layout index c
-    → Spells (unskipped_step layout parent index cy cx c) d ds → UnskippedTold layout parent index cy cx c d ds
+    → DecisionsSpell (unskipped_step layout parent index cy cx c) d ds → UnskippedTold layout parent index cy cx c d ds
 unskipped_told layout parent index cy cx c d ds is low left at spells =
-    let t = then_told (offset_step layout.mode index (place_of layout cy cx) c.indices) (λ js. and_then (filled_step layout parent cy cx c.values) (λ xs. done (content xs js))) d ds spells in
+    let t = then_told (offset_step layout.mode index (place_of layout cy cx) c.indices) (λ js. and_then (filled_step layout parent cy cx c.values) (λ xs. done (band_content xs js))) d ds spells in
     let o = offset_told layout index c t.x cy cx layout.mode t.ds low left at refl t.first in
-    let u = then_told (filled_step layout parent cy cx c.values) (λ xs. done (content xs t.x)) d t.es t.second in
+    let u = then_told (filled_step layout parent cy cx c.values) (λ xs. done (band_content xs t.x)) d t.es t.second in
     let v = filled_told layout parent c.values u.x cy cx u.ds is low left at.len u.first in
     subst (λ (x : Content). UnskippedTold layout parent index cy cx c x ds) u.second.0 (
     record {
@@ -129,13 +129,13 @@ unskipped_told layout parent index cy cx c d ds is low left at spells =
     )
 
 -- what a zero flag tells, where there is one
-flagged_told : (flagged : Bool) (skipped d : Content) (u : Coded Content) (ds : List Decision) → Spells (flagged_coded flagged skipped u) d ds
-    → ((flagged ≡ true) × (skipped ≡ d) × ((es : List Decision) → ds ≡ flagged_part flagged true es)) ⊎ ((es : List Decision) × Spells u d es × (ds ≡ flagged_part flagged false es))
+flagged_told : (flagged : Bool) (skipped d : Content) (u : Coded Content) (ds : List Decision) → DecisionsSpell (flagged_coded flagged skipped u) d ds
+    → ((flagged ≡ true) × (skipped ≡ d) × ((es : List Decision) → ds ≡ flagged_part flagged true es)) ⊎ ((es : List Decision) × DecisionsSpell u d es × (ds ≡ flagged_part flagged false es))
 flagged_told false skipped d u ds spells = inr (ds, spells, refl)
 flagged_told true skipped d u ds spells = told spells.0 spells.1 spells.3 spells.4
   where
-    told : (b : Bool) (rest : List Decision) → (let flag : Decision = (18, b) in ds ≡ flag ∷ rest) → Spells (unless skipped u b) d rest
-        → ((true ≡ true) × (skipped ≡ d) × ((es : List Decision) → ds ≡ flagged_part true true es)) ⊎ ((es : List Decision) × Spells u d es × (ds ≡ flagged_part true false es))
+    told : (b : Bool) (rest : List Decision) → (let flag : Decision = (18, b) in ds ≡ flag ∷ rest) → DecisionsSpell (unless skipped u b) d rest
+        → ((true ≡ true) × (skipped ≡ d) × ((es : List Decision) → ds ≡ flagged_part true true es)) ⊎ ((es : List Decision) × DecisionsSpell u d es × (ds ≡ flagged_part true false es))
     told true rest e s = inl (refl, s.0, λ es. e ∙ ap (λ (l : List Decision). let flag : Decision = (18, true) in flag ∷ l) s.1)
     told false rest e s = inr (rest, s, e)
 
@@ -161,7 +161,7 @@ pub record BlockTold (layout : BandLayout) (parent : List ℤ) (index cy cx : �
   pub is : ds ≡ block_part layout parent d.values cy cx mark
 
 pub block_told : (layout : BandLayout) (parent : List ℤ) (index cy cx : ℕ) (c d : Content) (ds : List Decision) → IsBandLayout layout → cy < layout.down → cx < layout.across → Begun layout index c
-    → ZeroFrom layout.width (edge_of layout.width layout.across cx) (edge_of layout.height layout.down cy) c.values → Spells (block_step layout parent index cy cx c) d ds → BlockTold layout parent index cy cx c d ds
+    → ZeroFrom layout.width (edge_of layout.width layout.across cx) (edge_of layout.height layout.down cy) c.values → DecisionsSpell (block_step layout parent index cy cx c) d ds → BlockTold layout parent index cy cx c d ds
 unfolding block_step
 block_told layout parent index cy cx c d ds is low left at clear spells =
     elim (flagged_told (is_flagged layout) (skipped_content layout index cy cx c) d (unskipped_step layout parent index cy cx c) ds spells) [
@@ -238,7 +238,7 @@ blocks_more {c = c} {d = d} layout parent index cy n lawful h e p b =
     }
 
 pub blocks_told : (layout : BandLayout) (parent : List ℤ) (index : ℕ) (c d : Content) (cy n : ℕ) (ds : List Decision) → IsBandLayout layout → cy < layout.down → n ≤ layout.across → Begun layout index c
-    → ZeroFrom layout.width 0 (edge_of layout.height layout.down cy) c.values → Spells (blocks_step layout parent index cy n c) d ds
+    → ZeroFrom layout.width 0 (edge_of layout.height layout.down cy) c.values → DecisionsSpell (blocks_step layout parent index cy n c) d ds
     → Went layout 0 (edge_of layout.width layout.across n) (edge_of layout.height layout.down cy) (edge_of layout.height layout.down (cy + 1)) (cy * layout.across) c d × BlocksTold layout parent index d cy n ds
 unfolding blocks_part repeated
 blocks_told layout parent index c d cy zero ds is low few at clear spells =
@@ -290,7 +290,7 @@ bands_more {c = c} {d = d} layout parent index n lawful h e went p q =
     }
 
 pub bands_told : (layout : BandLayout) (parent : List ℤ) (index : ℕ) (c d : Content) (n : ℕ) (ds : List Decision) → IsBandLayout layout → n ≤ layout.down → Begun layout index c
-    → ZeroFrom layout.width 0 0 c.values → Spells (block_rows_step layout parent index n c) d ds
+    → ZeroFrom layout.width 0 0 c.values → DecisionsSpell (block_rows_step layout parent index n c) d ds
     → Went layout 0 layout.width 0 (edge_of layout.height layout.down n) 0 c d × BandTold layout parent index d n ds
 unfolding bands_part repeated
 bands_told layout parent index c d zero ds is few at clear spells =

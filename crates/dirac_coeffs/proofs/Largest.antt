@@ -4,13 +4,14 @@ use Rattle.std.specs.List.{All}
 use Rattle.std.proofs.lemmas.List.Elements.{All-append}
 use Rattle.std.proofs.lemmas.Bool.{and_parts, cases_Bool, cases_eq, ne_eqb}
 use Rattle.std.proofs.lemmas.List.{get_or-append-add, get_or_append_left, get_or-set_other, get_or-set_same}
-use Rattle.dirac_common.specs.declared.limits.TheConstants.{LARGEST_TABLE_SIDE}
 use Rattle.dirac_coeffs.specs.declared.coefficients.NarrowRows.{NarrowRows}
 use Rattle.dirac_coeffs.specs.declared.coefficients.Held.TheVariants.{Narrow}
 use Rattle.dirac_common.specs.Table.{Table, row_of}
 use Rattle.dirac_coeffs.specs.Contexts.{is_zero}
-use Rattle.dirac_coeffs.specs.Held.{IsHeld, IsLargest, zeros_of}
+use Rattle.dirac_coeffs.specs.Held.{IsHeld, IsLargest, held_table, zeros_of}
 use Rattle.dirac_coeffs.specs.Written.{is_zero_band}
+use Rattle.dirac_coeffs.proofs.Edges.{rows_inside}
+use Rattle.std.proofs.lemmas.Nat.{mul-le}
 
 -- one more number is at most the largest so far, or is the largest itself
 pub bound_more : (f : ℕ → ℕ) (n old one new : ℕ) → ((k : ℕ) → k < n → f k ≤ old) → one ≡ f n → new ≡ max old one → (k : ℕ) → k < n + 1 → f k ≤ new
@@ -125,17 +126,6 @@ rows_taken t y =
     taken (suc m) (suc n) [] = let next : suc m + suc n ≡ suc (m + suc n) = omega arith in rw next refl
     taken (suc m) n (x ∷ xs) = let next : suc m + n ≡ suc (m + n) = omega arith in rw next (ap (λ zs. x ∷ zs) (taken m n xs))
 
--- rows in 32 bits are held where they are those of a table
-pub held_narrow : (r : NarrowRows) (table : Table) (largest : ℕ) → r.size.width ≡ table.width → r.size.height ≡ table.height → r.values.items ≡ table.values → length table.values ≡ table.width * table.height
-    → (1 ≤ table.width) × (table.width ≤ LARGEST_TABLE_SIDE) → (1 ≤ table.height) × (table.height ≤ LARGEST_TABLE_SIDE) → IsLargest largest table.values → 1 ≤ largest → IsHeld (Narrow r) largest
-held_narrow r table largest across down same whole wide high is some = record {
-  across = rw across wide;
-  down = rw down high;
-  whole = rw (same, across, down) whole;
-  most = rw same is;
-  form = some;
-}
-
 -- what is known of the rows that were narrowed, and of one more
 pub record AreNarrowed (all : Bool) (largest : ℕ) (values xs : List ℤ) : Type 0 where
   pub written : all ≡ true → values ≡ xs
@@ -154,3 +144,11 @@ row_narrowed t y next all one largest other new values more next_is p written mo
         | inr before ↦ p.others before m (front_all (λ v. unsigned_abs v ≤ m) (take (y * t.width) t.values) (row_of t y) l)
       ];
     })
+
+-- a place of rows in 32 bits is inside their list, and small
+pub held_inside : (r : NarrowRows) (t : Table) (x y largest : ℕ) → held_table (Narrow r) ≡ t → IsHeld (Narrow r) largest → x < t.width → y < t.height → (y * r.size.width + x < length r.values.items) × (y * r.size.width ≤ 8192 * 8192) × (x < 8192)
+held_inside r t x y largest same is column row =
+    let across : x < r.size.width = subst (λ (u : Table). x < u.width) (sym same) column in
+    let down : y < r.size.height = subst (λ (u : Table). y < u.height) (sym same) row in
+    let inside = rows_inside (y + 1) r.size.width r.size.height (length r.values.items) (omega (arith, down)) is.whole in
+    (omega (arith, inside, across), mul-le y r.size.width 8192 8192 (omega (arith, down, is.down)) is.across.1, omega (arith, across, is.across))

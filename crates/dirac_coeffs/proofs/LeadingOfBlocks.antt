@@ -6,17 +6,17 @@ use Rattle.std.proofs.lemmas.Bool.{cases_lt}
 use Rattle.std.proofs.lemmas.Int.{ints}
 use Rattle.std.proofs.lemmas.List.{get_or-set_same, get_or-set_other}
 use Rattle.dirac_common.specs.Limits.{IsIndex}
-use Rattle.dirac_arith.specs.Coded.{Coded, Spells, and_then, done, repeated}
+use Rattle.dirac_arith.specs.Coded.{Coded, DecisionsSpell, and_then, done, repeated}
 use Rattle.dirac_arith.specs.Interval.{Decision}
 use Rattle.dirac_arith.specs.Spelling.{signed_spelling}
 use Rattle.dirac_bands.specs.Geometry.{edge_of}
 use Rattle.dirac_coeffs.specs.declared.layout.BandLayout.{BandLayout}
-use Rattle.dirac_coeffs.specs.BandRead.{Content, content, filled_step, offset_step, unskipped_step, skipped_content, flagged_coded, block_step, blocks_step, block_rows_step}
+use Rattle.dirac_coeffs.specs.BandRead.{Content, band_content, filled_step, offset_step, unskipped_step, skipped_content, flagged_coded, block_step, blocks_step, block_rows_step}
 use Rattle.dirac_coeffs.specs.Carried.{AreSmall, IsIndexed, IsZeroBlock, SkippedIsZero}
-use Rattle.dirac_coeffs.specs.Contexts.{value_at}
+use Rattle.dirac_coeffs.specs.Contexts.{band_value}
 use Rattle.dirac_coeffs.specs.Decisions.{Mark, Marks, flagged_part, block_part, blocks_part, bands_part}
 use Rattle.dirac_coeffs.specs.Indices.{place_of, index_at, index_before, is_index, offset_part, with_former}
-use Rattle.dirac_coeffs.specs.Layouts.{IsBandLayout, span_of, is_flagged}
+use Rattle.dirac_coeffs.specs.Layouts.{IsBandLayout, codeblock_extent, is_flagged}
 use Rattle.dirac_coeffs.proofs.Edges.{edge_first, edge_most, edge_last, span_end, span_inside}
 use Rattle.dirac_coeffs.proofs.Filling.{values_part, filled_leads, same_over}
 use Rattle.dirac_coeffs.proofs.FillingOfBlocks.{Begun, begun_on, blocks_told, bands_told}
@@ -36,7 +36,7 @@ pub record Finished (layout : BandLayout) (ys : List ℤ) (js : List ℕ) : Type
 -- decisions spell values and indices which agree with the finished ones so far
 pub record LeadsOn (layout : BandLayout) (right bottom to : ℕ) (ys : List ℤ) (js : List ℕ) (s : Coded Content) (ds : List Decision) : Type 0 where
   pub d : Content
-  pub spells : Spells s d ds
+  pub spells : DecisionsSpell s d ds
   pub same : SameWithin layout.width d.values ys right bottom
   pub known : SameBefore to d.indices js
 
@@ -68,7 +68,7 @@ sum_same former i offset none e = omega (arith, ints)
 -- what an offset leads to
 record OffsetLeads (mode index c : ℕ) (is js : List ℕ) (ds : List Decision) : Type 0 where
   ks : List ℕ
-  spells : Spells (offset_step mode index c is) ks ds
+  spells : DecisionsSpell (offset_step mode index c is) ks ds
   known : SameBefore (c + 1) ks js
 
 -- indices of which those before this codeblock are known
@@ -94,7 +94,7 @@ offset_leads layout index c cy cx (suc m) mark js low left at e each known index
     let inside : p < length c.indices = omega (arith, place_inside layout cy cx low left, at.count) in
     let sum : pos i ≡ pos former +ℤ mark.offset = indexed.sum ∙ ap (λ k. pos k +ℤ mark.offset) (sym (before_same index c.indices js p known)) in
     let fits = sum_fits former i mark.offset (index_few js p each) sum in
-    let last : Spells (and_then (done (unsigned_abs (pos former +ℤ mark.offset))) put) ks [] = (ap (λ n. set c.indices p n) fits.1, refl) in
+    let last : DecisionsSpell (and_then (done (unsigned_abs (pos former +ℤ mark.offset))) put) ks [] = (ap (λ n. set c.indices p n) fits.1, refl) in
     record {
       ks = ks;
       spells = (
@@ -102,7 +102,7 @@ offset_leads layout index c cy cx (suc m) mark js low left at e each known index
         [],
         offset_small former i mark.offset (before_few index c.indices p at.own at.each) (index_few js p each) sum,
         sym (append-nil (signed_spelling (19 ∷ []) 20 21 mark.offset)),
-        subst (λ (s : Coded ℕ). Spells (and_then s put) ks []) (sym (from_index former mark.offset fits.0)) last,
+        subst (λ (s : Coded ℕ). DecisionsSpell (and_then s put) ks []) (sym (from_index former mark.offset fits.0)) last,
       );
       known = set_known p i c.indices js inside known refl;
     }
@@ -137,14 +137,14 @@ unskipped_leads layout parent index c ys js cy cx mark f low inside a indexed =
     let o = offset_leads layout index c cy cx layout.mode mark js low inside a.at refl f.each a.known indexed in
     let v = filled_leads layout parent c.values ys cy cx low inside f.small a.at.len f.len a.left a.over in
     let es = values_part layout parent ys cy cx in
-    let put : List ℕ → List ℤ → Coded Content = λ is xs. done (content xs is) in
-    let values : Spells (and_then (filled_step layout parent cy cx c.values) (put o.ks)) (content v.zs o.ks) es =
-    subst (λ (l : List Decision). Spells (and_then (filled_step layout parent cy cx c.values) (put o.ks)) (content v.zs o.ks) l) (append-nil es)
-    (then_tells (filled_step layout parent cy cx c.values) (put o.ks) v.zs (content v.zs o.ks) es [] v.spells (refl, refl)) in
+    let put : List ℕ → List ℤ → Coded Content = λ is xs. done (band_content xs is) in
+    let values : DecisionsSpell (and_then (filled_step layout parent cy cx c.values) (put o.ks)) (band_content v.zs o.ks) es =
+    subst (λ (l : List Decision). DecisionsSpell (and_then (filled_step layout parent cy cx c.values) (put o.ks)) (band_content v.zs o.ks) l) (append-nil es)
+    (then_tells (filled_step layout parent cy cx c.values) (put o.ks) v.zs (band_content v.zs o.ks) es [] v.spells (refl, refl)) in
     record {
-      d = content v.zs o.ks;
+      d = band_content v.zs o.ks;
       spells =
-          then_tells (offset_step layout.mode index (place_of layout cy cx) c.indices) (λ is. and_then (filled_step layout parent cy cx c.values) (put is)) o.ks (content v.zs o.ks) (offset_part layout.mode mark.offset) es o.spells values;
+          then_tells (offset_step layout.mode index (place_of layout cy cx) c.indices) (λ is. and_then (filled_step layout parent cy cx c.values) (put is)) o.ks (band_content v.zs o.ks) (offset_part layout.mode mark.offset) es o.spells values;
       same = v.same;
       known = o.known;
     }
@@ -152,8 +152,8 @@ unskipped_leads layout parent index c ys js cy cx mark f low inside a indexed =
 -- zeros in a rectangle, on both sides the same to its left and above it
 zeros_meet : (w : ℕ) (xs ys : List ℤ) (left columns top rows : ℕ)
     → SameWithin w xs ys left (top + rows) → SameWithin w xs ys (left + columns) top
-    → ((i j : ℕ) → i < columns → j < rows → value_at w xs (left + i) (top + j) ≡ pos 0)
-    → ((i j : ℕ) → i < columns → j < rows → value_at w ys (left + i) (top + j) ≡ pos 0)
+    → ((i j : ℕ) → i < columns → j < rows → band_value w xs (left + i) (top + j) ≡ pos 0)
+    → ((i j : ℕ) → i < columns → j < rows → band_value w ys (left + i) (top + j) ≡ pos 0)
     → SameWithin w xs ys (left + columns) (top + rows)
 zeros_meet w xs ys left columns top rows s t z z' =
     record {
@@ -176,8 +176,8 @@ skipped_same : (layout : BandLayout) (index : ℕ) (c : Content) (ys : List ℤ)
 skipped_same layout index c ys js cy cx is inside a zeros theirs =
     let x = edge_of layout.width layout.across cx in
     let y = edge_of layout.height layout.down cy in
-    let columns = span_of layout.width layout.across cx in
-    let rows = span_of layout.height layout.down cy in
+    let columns = codeblock_extent layout.width layout.across cx in
+    let rows = codeblock_extent layout.height layout.down cy in
     let right : x + columns ≡ edge_of layout.width layout.across (cx + 1) = span_end layout.width layout.across cx (omega arith) in
     let bottom : y + rows ≡ edge_of layout.height layout.down (cy + 1) = span_end layout.height layout.down cy (omega (arith, is.down)) in
     let within = span_inside layout.width layout.across cx inside in

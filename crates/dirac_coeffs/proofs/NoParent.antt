@@ -5,7 +5,7 @@ use Rattle.std.proofs.lemmas.List.{get_or-replicate, get_or_past, length-replica
 use Rattle.std.proofs.lemmas.Bool.{cases_lt}
 use Rattle.dirac_common.specs.declared.faults.Cause.{Cause}
 use Rattle.dirac_common.specs.Chain.{◌>>=◌}
-use Rattle.dirac_arith.specs.Coded.{Coded, read, repeated}
+use Rattle.dirac_arith.specs.Coded.{Coded, read_coded, repeated}
 use Rattle.dirac_arith.specs.Reading.{Reading}
 use Rattle.dirac_arith.proofs.CodedValues.{then_is_read}
 use Rattle.dirac_coeffs.specs.declared.layout.BandLayout.{BandLayout}
@@ -13,31 +13,31 @@ use Rattle.dirac_coeffs.specs.BandRead.{value_step, row_step}
 use Rattle.dirac_coeffs.specs.Decisions.{frame_of}
 
 -- steps that are read alike are read alike one after another
-repeated_same : {A : Type 0} (step other : ℕ → A → Coded A) (n : ℕ) (x : A) (r : Reading) → ((i : ℕ) (y : A) (s : Reading) → read (step i y) s ≡ read (other i y) s) → read (repeated step n x) r ≡ read (repeated other n x) r
+repeated_same : {A : Type 0} (step other : ℕ → A → Coded A) (n : ℕ) (x : A) (r : Reading) → ((i : ℕ) (y : A) (s : Reading) → read_coded (step i y) s ≡ read_coded (other i y) s) → read_coded (repeated step n x) r ≡ read_coded (repeated other n x) r
 unfolding repeated
 repeated_same step other zero x r same = refl
 repeated_same {A = A} step other (suc n) x r same =
     then_is_read (repeated step n x) (step n) r
-    ∙ ap (λ (q : Result (A × Reading) Cause). q >>= λ y. read (step n y.0) y.1) (repeated_same step other n x r same)
-    ∙ next (read (repeated other n x) r)
+    ∙ ap (λ (q : Result (A × Reading) Cause). q >>= λ y. read_coded (step n y.0) y.1) (repeated_same step other n x r same)
+    ∙ next (read_coded (repeated other n x) r)
     ∙ sym (then_is_read (repeated other n x) (other n) r)
   where
-    next : (q : Result (A × Reading) Cause) → (q >>= λ y. read (step n y.0) y.1) ≡ (q >>= λ y. read (other n y.0) y.1)
+    next : (q : Result (A × Reading) Cause) → (q >>= λ y. read_coded (step n y.0) y.1) ≡ (q >>= λ y. read_coded (other n y.0) y.1)
     next (Ok y) = same n y.0 y.1
     next (Err e) = refl
 
 -- a number of a list of zeros is zero, also behind its end
-zeros_at : (count place : ℕ) → slice_index_or (replicate count (pos 0)) place (pos 0) ≡ pos 0
+pub zeros_at : (count place : ℕ) → slice_index_or (replicate count (pos 0)) place (pos 0) ≡ pos 0
 zeros_at count place = elim (cases_lt place count) [
   | inl inside ↦ get_or-replicate count place (pos 0) (pos 0) inside
   | inr past ↦ get_or_past (replicate count (pos 0)) place (pos 0) (subst (λ n. n ≤ place) (sym (length-replicate count (pos 0))) past)
 ]
 
-value_of_zeros : (layout : BandLayout) (count x y : ℕ) (xs : List ℤ) (r : Reading) → read (value_step (frame_of layout []) x y xs) r ≡ read (value_step (frame_of layout (replicate count (pos 0))) x y xs) r
+value_of_zeros : (layout : BandLayout) (count x y : ℕ) (xs : List ℤ) (r : Reading) → read_coded (value_step (frame_of layout []) x y xs) r ≡ read_coded (value_step (frame_of layout (replicate count (pos 0))) x y xs) r
 unfolding value_step
 value_of_zeros layout count x y xs r = rw (zeros_at count (y / 2 * (layout.width / 2) + x / 2)) refl
 
 -- a row reads the same below zeros as below no parent
-pub row_below_zeros : (layout : BandLayout) (count y x n : ℕ) (xs : List ℤ) (r : Reading) → read (row_step (frame_of layout []) y x n xs) r ≡ read (row_step (frame_of layout (replicate count (pos 0))) y x n xs) r
+pub row_below_zeros : (layout : BandLayout) (count y x n : ℕ) (xs : List ℤ) (r : Reading) → read_coded (row_step (frame_of layout []) y x n xs) r ≡ read_coded (row_step (frame_of layout (replicate count (pos 0))) y x n xs) r
 row_below_zeros layout count y x n xs r =
     repeated_same (λ i. value_step (frame_of layout []) (x + i) y) (λ i. value_step (frame_of layout (replicate count (pos 0))) (x + i) y) n xs r (λ i q s. value_of_zeros layout count (x + i) y q s)

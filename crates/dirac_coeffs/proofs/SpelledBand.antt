@@ -13,13 +13,13 @@ use Rattle.dirac_bits.proofs.Fields.{gap_length-at}
 use Rattle.dirac_arith.proofs.Encodings.{flush_bytes}
 use Rattle.dirac_coeffs.specs.declared.layout.BandLayout.{BandLayout}
 use Rattle.dirac_coeffs.specs.declared.layout.CodedBand.{CodedBand}
-use Rattle.dirac_coeffs.specs.BandRead.{Content, content, band_read}
+use Rattle.dirac_coeffs.specs.BandRead.{Content, band_content, band_read}
 use Rattle.dirac_coeffs.specs.Indices.{all_equal}
 use Rattle.dirac_arith.proofs.Carrieds.{no_answer}
 use Rattle.dirac_coeffs.specs.Decisions.{band_decisions}
 use Rattle.dirac_coeffs.specs.Grammar.{band, coded_band, band_from, band_table, zero_band, IsCodedBand}
 use Rattle.dirac_coeffs.specs.Layouts.{IsBandLayout}
-use Rattle.dirac_coeffs.specs.Written.{AreIndicesOf, marks_of, block_of, is_zero_band, with_block, with_band}
+use Rattle.dirac_coeffs.specs.Written.{AreIndicesOf, marks_of, block_of, is_zero_band, with_band_block, with_band}
 use Rattle.dirac_coeffs.proofs.BlockLengths.{block_short}
 use Rattle.dirac_coeffs.proofs.Read.{ones_read}
 use Rattle.dirac_coeffs.proofs.Writing.{written_read}
@@ -51,7 +51,7 @@ zero_is layout b is index indices zeros =
 
 -- the index and the block
 coded_spelled : (layout : BandLayout) (parent : List ℤ) (b : CodedBand) (block : List ℕ) (k : ℕ) (before : List Bool) → IsCodedBand layout b
-    → length before ≡ k + length (uint b.index) → AllByRecursion (λ c. c < 2 ^ 8) block → band_read layout parent b.index block ≡ Ok (content b.table.values b.indices)
+    → length before ≡ k + length (uint b.index) → AllByRecursion (λ c. c < 2 ^ 8) block → band_read layout parent b.index block ≡ Ok (band_content b.table.values b.indices)
     → Spells (coded_band layout parent (length block)) b k (uint b.index ++ (gap before ++ bits_of block))
 unfolding coded_band
 coded_spelled layout parent b block k before is len bytes read =
@@ -85,14 +85,14 @@ zeros_spelled layout parent b bits e =
 
 -- a band with a block
 block_spelled : (layout : BandLayout) (parent : List ℤ) (b : CodedBand) (bits : List Bool) → IsBandLayout layout → IsCodedBand layout b → AreIndicesOf layout b.index b.table.values b.indices → length (block_of layout parent b.index b.table.values b.indices) + 1 < 2 ^ 39
-    → SpelledBehind (band layout parent) b bits (with_block b.index (block_of layout parent b.index b.table.values b.indices) (up_to_byte bits))
+    → SpelledBehind (band layout parent) b bits (with_band_block b.index (block_of layout parent b.index b.table.values b.indices) (up_to_byte bits))
 unfolding band
 block_spelled layout parent b bits spot_is is of short =
     let xs = b.table.values in
     let js = b.indices in
     let block = block_of layout parent b.index xs js in
     let len = length block in
-    let read : band_read layout parent b.index block ≡ Ok (content xs js) = written_read layout parent b.index xs js spot_is (record { len = is.len; small = is.small; count = is.count; own = is.index; each = is.each }) of in
+    let read : band_read layout parent b.index block ≡ Ok (band_content xs js) = written_read layout parent b.index xs js spot_is (record { len = is.len; small = is.small; count = is.count; own = is.index; each = is.each }) of in
     let before = (up_to_byte bits ++ uint len) ++ uint b.index in
     let k = length bits in
     let k1 = k + length (gap bits) in
@@ -101,7 +101,7 @@ block_spelled layout parent b bits spot_is is of short =
     omega (arith, length-append {A = Bool} (up_to_byte bits ++ uint len) (uint b.index), length-append {A = Bool} (up_to_byte bits) (uint len), length-append {A = Bool} bits (gap bits)) in
     let rest = uint b.index ++ (gap before ++ bits_of block) in
     let coded = coded_spelled layout parent b block k2 before is behind (flush_bytes (band_decisions layout parent xs (marks_of layout b.index xs js))) read in
-    let some : (len == 0) ≡ false = ne_eqb len 0 (block_some layout parent b.index (content xs js) block read) in
+    let some : (len == 0) ≡ false = ne_eqb len 0 (block_some layout parent b.index (band_content xs js) block read) in
     let chosen : Spells (if len == 0 then done (zero_band layout) else coded_band layout parent len) b k2 rest =
     subst (λ t. Spells (if t then done (zero_band layout) else coded_band layout parent len) b k2 rest) (sym some) coded in
     record {

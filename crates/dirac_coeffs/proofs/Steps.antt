@@ -2,7 +2,7 @@
 use Rattle.std.proofs.Common.{◌≡◌, ℕ, zero, suc, ◌<◌, inl, inr, List, [], ◌++◌, Ok, Err, refl, sym, ap, ◌∙◌, arith, subst, append_assoc}
 use Rattle.dirac_common.specs.declared.faults.Cause.{Cause}
 use Rattle.dirac_common.specs.declared.faults.Cause.TheVariants.{CodeWord, NumberTooLong}
-use Rattle.dirac_arith.specs.Coded.{Coded, Question, one_decision, one_number, one_signed, Answer, TooLong, telling, done, ask, refuse, read, and_then, repeated, Spells, Breaks}
+use Rattle.dirac_arith.specs.Coded.{Coded, Question, one_decision, one_number, one_signed, Answer, TooLong, telling, done, ask, refuse, read_coded, and_then, repeated, DecisionsSpell, Breaks}
 use Rattle.dirac_arith.specs.Deciding.{begin}
 use Rattle.dirac_arith.specs.Front.{front}
 use Rattle.dirac_arith.specs.Interval.{Decision}
@@ -14,7 +14,7 @@ use Rattle.dirac_coeffs.specs.declared.store.Unread.TheVariants as unread
 use Rattle.dirac_coeffs.specs.Answers.{RefusedBy}
 
 -- a step where reading stops ends them all
-pub repeated_unread : {A : Type 0} (narrow : Type 0) (step : ℕ → A → Coded A) (n m : ℕ) (x : A) (r : Reading) (y : A) (s : Reading) (e : Unread) → n < m → read (repeated step n x) r ≡ Ok (y, s) → RefusedBy narrow e (read (step n y) s) → RefusedBy narrow e (read (repeated step m x) r)
+pub repeated_unread : {A : Type 0} (narrow : Type 0) (step : ℕ → A → Coded A) (n m : ℕ) (x : A) (r : Reading) (y : A) (s : Reading) (e : Unread) → n < m → read_coded (repeated step n x) r ≡ Ok (y, s) → RefusedBy narrow e (read_coded (step n y) s) → RefusedBy narrow e (read_coded (repeated step m x) r)
 repeated_unread narrow step n m x r y s (unread.Refused cause) less before here = repeated_stops step n m x r y s cause less before here
 repeated_unread narrow step n m x r y s unread.TooWide less before here = here
 
@@ -23,11 +23,11 @@ pub record Parts {A B : Type 0} (s : Coded A) (g : A → Coded B) (y : B) (all :
   pub x : A
   pub ds : List Decision
   pub es : List Decision
-  pub first : Spells s x ds
-  pub second : Spells (g x) y es
+  pub first : DecisionsSpell s x ds
+  pub second : DecisionsSpell (g x) y es
   pub is : all ≡ ds ++ es
 
-pub then_told : {A B : Type 0} (s : Coded A) (g : A → Coded B) (y : B) (all : List Decision) → Spells (and_then s g) y all → Parts s g y all
+pub then_told : {A B : Type 0} (s : Coded A) (g : A → Coded B) (y : B) (all : List Decision) → DecisionsSpell (and_then s g) y all → Parts s g y all
 then_told (done x) g y all spells = record { x = x; ds = []; es = all; first = (refl, refl); second = spells; is = refl }
 then_told (ask q f) g y all spells =
     let p = then_told (f spells.0) g y spells.1 spells.4 in
@@ -41,9 +41,9 @@ then_told (ask q f) g y all spells =
     }
 then_told (refuse cause) g y all spells = absurd spells
 
-pub then_tells : {A B : Type 0} (s : Coded A) (g : A → Coded B) (x : A) (y : B) (ds es : List Decision) → Spells s x ds → Spells (g x) y es → Spells (and_then s g) y (ds ++ es)
+pub then_tells : {A B : Type 0} (s : Coded A) (g : A → Coded B) (x : A) (y : B) (ds es : List Decision) → DecisionsSpell s x ds → DecisionsSpell (g x) y es → DecisionsSpell (and_then s g) y (ds ++ es)
 then_tells (done z) g x y ds es first second =
-    subst (λ (l : List Decision). Spells (g z) y (l ++ es)) (sym first.1) (subst (λ v. Spells (g v) y es) (sym first.0) second)
+    subst (λ (l : List Decision). DecisionsSpell (g z) y (l ++ es)) (sym first.1) (subst (λ v. DecisionsSpell (g v) y es) (sym first.0) second)
 then_tells (ask q f) g x y ds es first second =
     (first.0, first.1 ++ es, first.2, ap (λ (l : List Decision). l ++ es) first.3 ∙ append_assoc (telling q first.0) first.1 es, then_tells (f first.0) g x y first.1 es first.4 second)
 then_tells (refuse cause) g x y ds es first second = absurd first
@@ -98,7 +98,7 @@ repeated_asks step (suc zero) x some first = first
 repeated_asks step (suc (suc n)) x some first = then_asks (repeated step (suc n) x) (step (suc n)) (repeated_asks step (suc n) x (omega arith) first)
 
 -- a block that begins with ones refuses it
-pub asks_shut : {A : Type 0} (s : Coded A) (block : List ℕ) → Asks s → front block 16 ≡ 0xFFFF → read s (begin block) ≡ Err CodeWord
+pub asks_shut : {A : Type 0} (s : Coded A) (block : List ℕ) → Asks s → front block 16 ≡ 0xFFFF → read_coded s (begin block) ≡ Err CodeWord
 asks_shut (done x) block first ones = absurd first
 asks_shut (ask (one_decision context) f) block first ones = rw (decided_shut context (begin block) ones) refl
 asks_shut (ask (one_number follow bits) f) block first ones = rw (number_is_shut follow bits (begin block) ones) refl

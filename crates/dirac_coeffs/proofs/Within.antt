@@ -3,7 +3,7 @@ use Rattle.std.proofs.Common.{◌≡◌, ◌≢◌, ℕ, ℤ, pos, ◌+◌, ◌*
 use Rattle.std.proofs.lemmas.Bool.{cases_lt}
 use Rattle.std.proofs.lemmas.List.{get_or-set_other}
 use Rattle.std.proofs.lemmas.Nat.{same_from_place}
-use Rattle.dirac_coeffs.specs.Contexts.{value_at}
+use Rattle.dirac_coeffs.specs.Contexts.{band_value}
 use Rattle.dirac_coeffs.proofs.Places.{SameWithin, KeptOutside, ZeroFrom}
 
 -- a smaller part
@@ -11,7 +11,7 @@ pub same_less : {w right bottom r b : ℕ} {xs ys : List ℤ} → r ≤ right �
 same_less h k s = record { each = λ x y p q t. s.each x y p (omega arith) (omega arith) }
 
 -- one column more in the last row
-pub same_more : {w x y : ℕ} {xs ys : List ℤ} → SameWithin w xs ys x (y + 1) → SameWithin w xs ys (x + 1) y → value_at w xs x y ≡ value_at w ys x y → SameWithin w xs ys (x + 1) (y + 1)
+pub same_more : {w x y : ℕ} {xs ys : List ℤ} → SameWithin w xs ys x (y + 1) → SameWithin w xs ys (x + 1) y → band_value w xs x y ≡ band_value w ys x y → SameWithin w xs ys (x + 1) (y + 1)
 same_more {x = x} {y = y} s t e =
     record {
       each = λ i j p q r.
@@ -63,7 +63,7 @@ other_place w x y i j p q apart e = let same : (j ≡ y) × (i ≡ x) = same_fro
 -- a store changes its own place
 pub set_kept : (w : ℕ) (xs : List ℤ) (x y : ℕ) (v : ℤ) → x < w → KeptOutside w x (x + 1) y (y + 1) xs (set xs (y * w + x) v)
 set_kept w xs x y v h =
-    let elsewhere : (i j : ℕ) → i < w → ((i ≡ x) × (j ≡ y) → ⊥) → value_at w xs i j ≡ value_at w (set xs (y * w + x) v) i j =
+    let elsewhere : (i j : ℕ) → i < w → ((i ≡ x) × (j ≡ y) → ⊥) → band_value w xs i j ≡ band_value w (set xs (y * w + x) v) i j =
     λ i j p apart. sym (get_or-set_other xs (y * w + x) (j * w + i) v (pos 0) (other_place w x y i j h p apart)) in
     record {
       len = length-set xs (y * w + x) v;

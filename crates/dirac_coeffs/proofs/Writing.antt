@@ -11,12 +11,12 @@ use Rattle.dirac_arith.proofs.InContexts.{AreBelow, in_append, in_signed}
 use Rattle.dirac_arith.proofs.Numbers.{digits_none}
 use Rattle.dirac_bands.specs.Geometry.{edge_of}
 use Rattle.dirac_coeffs.specs.declared.layout.BandLayout.{BandLayout}
-use Rattle.dirac_coeffs.specs.BandRead.{band_read, content}
+use Rattle.dirac_coeffs.specs.BandRead.{band_read, band_content}
 use Rattle.dirac_coeffs.specs.Carried.{AreLawful, CarriesBand}
 use Rattle.dirac_coeffs.specs.Indices.{place_of, index_at, index_before, offset_part}
-use Rattle.dirac_coeffs.specs.Contexts.{value_at, left_of, above_of, corner_of, parent_of, is_zero, follow_of, sign_of, sign_neighbour, bits_context}
+use Rattle.dirac_coeffs.specs.Contexts.{band_value, value_left_of, value_above, value_in_corner, parent_of, is_zero, follow_of, sign_of, sign_neighbour, bits_context}
 use Rattle.dirac_coeffs.specs.Decisions.{Frame, Mark, Marks, frame_of, follow_here, sign_here, value_part, row_part, rows_part, flagged_part, block_part, blocks_part, bands_part, band_decisions}
-use Rattle.dirac_coeffs.specs.Layouts.{IsBandLayout, span_of, is_flagged}
+use Rattle.dirac_coeffs.specs.Layouts.{IsBandLayout, codeblock_extent, is_flagged}
 use Rattle.dirac_coeffs.specs.Written.{AreIndicesOf, marks_of, block_of}
 use Rattle.dirac_coeffs.proofs.Read.{band_found}
 use Rattle.dirac_coeffs.proofs.ZeroTests.{zero_block_decides}
@@ -38,9 +38,9 @@ sign_below (negsuc n) = lit< tt
 
 in_value : (f : Frame) (xs : List ℤ) (x y : ℕ) → InContexts (value_part f xs x y)
 in_value f xs x y =
-    in_signed (follow_here f xs x y) bits_context (sign_here f xs x y) (value_at f.width xs x y)
-    (follow_below (is_zero (parent_of f.width f.parent x y)) (is_zero (left_of f.width xs x y) && (is_zero (above_of f.width xs x y) && is_zero (corner_of f.width xs x y))))
-    (lit< tt) (sign_below (sign_neighbour f.band (left_of f.width xs x y) (above_of f.width xs x y)))
+    in_signed (follow_here f xs x y) bits_context (sign_here f xs x y) (band_value f.width xs x y)
+    (follow_below (is_zero (parent_of f.width f.parent x y)) (is_zero (value_left_of f.width xs x y) && (is_zero (value_above f.width xs x y) && is_zero (value_in_corner f.width xs x y))))
+    (lit< tt) (sign_below (sign_neighbour f.band (value_left_of f.width xs x y) (value_above f.width xs x y)))
 
 in_row : (f : Frame) (xs : List ℤ) (y x n : ℕ) → InContexts (row_part f xs y x n)
 unfolding row_part
@@ -67,10 +67,10 @@ in_blocks layout parent xs marks cy zero = tt
 in_blocks layout parent xs marks cy (suc n) =
     in_append (blocks_part layout parent xs marks cy n) (block_part layout parent xs cy n (marks n)) (in_blocks layout parent xs marks cy n)
     (in_flagged (is_flagged layout) (marks n).skipped
-    (offset_part layout.mode (marks n).offset ++ rows_part (frame_of layout parent) xs (edge_of layout.width layout.across n) (span_of layout.width layout.across n) (edge_of layout.height layout.down cy) (span_of layout.height layout.down cy))
-    (in_append (offset_part layout.mode (marks n).offset) (rows_part (frame_of layout parent) xs (edge_of layout.width layout.across n) (span_of layout.width layout.across n) (edge_of layout.height layout.down cy) (span_of layout.height layout.down cy))
+    (offset_part layout.mode (marks n).offset ++ rows_part (frame_of layout parent) xs (edge_of layout.width layout.across n) (codeblock_extent layout.width layout.across n) (edge_of layout.height layout.down cy) (codeblock_extent layout.height layout.down cy))
+    (in_append (offset_part layout.mode (marks n).offset) (rows_part (frame_of layout parent) xs (edge_of layout.width layout.across n) (codeblock_extent layout.width layout.across n) (edge_of layout.height layout.down cy) (codeblock_extent layout.height layout.down cy))
     (in_offset layout.mode (marks n).offset)
-    (in_rows (frame_of layout parent) xs (edge_of layout.width layout.across n) (span_of layout.width layout.across n) (edge_of layout.height layout.down cy) (span_of layout.height layout.down cy))))
+    (in_rows (frame_of layout parent) xs (edge_of layout.width layout.across n) (codeblock_extent layout.width layout.across n) (edge_of layout.height layout.down cy) (codeblock_extent layout.height layout.down cy))))
 
 pub in_bands : (layout : BandLayout) (parent xs : List ℤ) (marks : Marks) (n : ℕ) → InContexts (bands_part layout parent xs marks n)
 unfolding bands_part
@@ -125,5 +125,5 @@ written_carried layout parent index xs is lawful of =
     }
 
 -- so it reads to the band
-pub written_read : (layout : BandLayout) (parent : List ℤ) (index : ℕ) (xs : List ℤ) (is : List ℕ) → IsBandLayout layout → AreLawful layout index xs is → AreIndicesOf layout index xs is → band_read layout parent index (block_of layout parent index xs is) ≡ Ok (content xs is)
+pub written_read : (layout : BandLayout) (parent : List ℤ) (index : ℕ) (xs : List ℤ) (is : List ℕ) → IsBandLayout layout → AreLawful layout index xs is → AreIndicesOf layout index xs is → band_read layout parent index (block_of layout parent index xs is) ≡ Ok (band_content xs is)
 written_read layout parent index xs is h lawful of = band_found layout parent index (block_of layout parent index xs is) xs is (marks_of layout index xs is) h (written_carried layout parent index xs is lawful of)

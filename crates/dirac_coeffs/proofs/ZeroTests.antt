@@ -6,8 +6,8 @@ use Rattle.std.proofs.lemmas.Bool.Decides.{Decides-below_and, same_from_decides}
 use Rattle.dirac_bands.specs.Geometry.{edge_of}
 use Rattle.dirac_coeffs.specs.declared.layout.BandLayout.{BandLayout}
 use Rattle.dirac_coeffs.specs.Carried.{IsZeroBlock}
-use Rattle.dirac_coeffs.specs.Contexts.{value_at, is_zero}
-use Rattle.dirac_coeffs.specs.Layouts.{span_of}
+use Rattle.dirac_coeffs.specs.Contexts.{band_value, is_zero}
+use Rattle.dirac_coeffs.specs.Layouts.{codeblock_extent}
 use Rattle.dirac_coeffs.specs.Written.{all_below, is_zero_block}
 
 -- what the tests decide
@@ -24,9 +24,9 @@ pub zero_block_decides : (layout : BandLayout) (xs : List ℤ) (cy cx : ℕ) →
 zero_block_decides layout xs cy cx =
     let left = edge_of layout.width layout.across cx in
     let top = edge_of layout.height layout.down cy in
-    let at : ℕ → ℕ → ℤ = λ i j. value_at layout.width xs (left + i) (top + j) in
-    let columns = span_of layout.width layout.across cx in
-    let rows = span_of layout.height layout.down cy in
+    let at : ℕ → ℕ → ℤ = λ i j. band_value layout.width xs (left + i) (top + j) in
+    let columns = codeblock_extent layout.width layout.across cx in
+    let rows = codeblock_extent layout.height layout.down cy in
     let d =
     all_decides (λ i. all_below (λ j. is_zero (at i j)) rows) (λ i. (j : ℕ) → j < rows → at i j ≡ pos 0)
     (λ i. all_decides (λ j. is_zero (at i j)) (λ j. at i j ≡ pos 0) (λ j. zero_decides (at i j)) rows) columns in
@@ -34,9 +34,9 @@ zero_block_decides layout xs cy cx =
 
 -- a test of a rectangle whose edges are the codeblock's
 pub tests_block : (b : Bool) (layout : BandLayout) (xs : List ℤ) (cy cx left columns top rows : ℕ)
-    → left ≡ edge_of layout.width layout.across cx → columns ≡ span_of layout.width layout.across cx → top ≡ edge_of layout.height layout.down cy → rows ≡ span_of layout.height layout.down cy
-    → (b ≡ true → (i j : ℕ) → i < columns → j < rows → value_at layout.width xs (left + i) (top + j) ≡ pos 0)
-    → (b ≡ false → ((i j : ℕ) → i < columns → j < rows → value_at layout.width xs (left + i) (top + j) ≡ pos 0) → ⊥)
+    → left ≡ edge_of layout.width layout.across cx → columns ≡ codeblock_extent layout.width layout.across cx → top ≡ edge_of layout.height layout.down cy → rows ≡ codeblock_extent layout.height layout.down cy
+    → (b ≡ true → (i j : ℕ) → i < columns → j < rows → band_value layout.width xs (left + i) (top + j) ≡ pos 0)
+    → (b ≡ false → ((i j : ℕ) → i < columns → j < rows → band_value layout.width xs (left + i) (top + j) ≡ pos 0) → ⊥)
     → b ≡ is_zero_block layout xs cy cx
 tests_block b layout xs cy cx left columns top rows el ec et er zeros others =
     let Z = IsZeroBlock layout xs cy cx in

@@ -9,10 +9,10 @@ use Rattle.dirac_arith.specs.Interval.{Decision}
 use Rattle.dirac_bands.specs.Geometry.{edge_of}
 use Rattle.dirac_coeffs.specs.declared.layout.BandLayout.{BandLayout}
 use Rattle.dirac_coeffs.specs.BandRead.{band_coded}
-use Rattle.dirac_coeffs.specs.Contexts.{value_at}
+use Rattle.dirac_coeffs.specs.Contexts.{band_value}
 use Rattle.dirac_coeffs.specs.Decisions.{Mark, Marks, band_decisions}
 use Rattle.dirac_coeffs.specs.Indices.{place_of, index_at, index_before}
-use Rattle.dirac_coeffs.specs.Layouts.{span_of, is_flagged}
+use Rattle.dirac_coeffs.specs.Layouts.{codeblock_extent, is_flagged}
 
 -- the magnitudes that a number can spell
 abbrev pub AreSmall : List ℤ → Type 0
@@ -22,9 +22,9 @@ AreSmall xs = All (λ v. unsigned_abs v < 2 ^ 39 - 1) xs
 abbrev pub IsZeroBlock : BandLayout → List ℤ → ℕ → ℕ → Type 0
 IsZeroBlock layout xs cy cx =
     (i j : ℕ) →
-    i < span_of layout.width layout.across cx →
-    j < span_of layout.height layout.down cy →
-    value_at layout.width xs (edge_of layout.width layout.across cx + i) (edge_of layout.height layout.down cy + j)
+    i < codeblock_extent layout.width layout.across cx →
+    j < codeblock_extent layout.height layout.down cy →
+    band_value layout.width xs (edge_of layout.width layout.across cx + i) (edge_of layout.height layout.down cy + j)
     ≡ pos 0
 
 -- a codeblock whose flag is true has zeros alone
@@ -58,14 +58,14 @@ pub record CarriesBand (layout : BandLayout) (parent : List ℤ) (index : ℕ) (
     pub carried : Carries block (band_decisions layout parent xs marks)
 
 -- the block carries decisions that lead to where the band breaks off for this cause
-abbrev pub BreaksOff : BandLayout → List ℤ → ℕ → List ℕ → Cause → Type 0
-BreaksOff layout parent index block cause =
+abbrev pub BandBreaksOff : BandLayout → List ℤ → ℕ → List ℕ → Cause → Type 0
+BandBreaksOff layout parent index block cause =
     (ds : List Decision) × Breaks (band_coded layout parent index) cause ds × Carries block ds
 
 -- the block carries the decisions up to a number that is too long
 abbrev pub CarriesLong : BandLayout → List ℤ → ℕ → List ℕ → Type 0
-CarriesLong layout parent index block = BreaksOff layout parent index block NumberTooLong
+CarriesLong layout parent index block = BandBreaksOff layout parent index block NumberTooLong
 
 -- the block carries the decisions up to an offset that leads to no quantiser's index
 abbrev pub CarriesNoIndex : BandLayout → List ℤ → ℕ → List ℕ → Type 0
-CarriesNoIndex layout parent index block = BreaksOff layout parent index block QuantIndex
+CarriesNoIndex layout parent index block = BandBreaksOff layout parent index block QuantIndex

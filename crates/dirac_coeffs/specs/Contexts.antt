@@ -10,20 +10,20 @@ use Rattle.dirac_arith.specs.Interval.{Decision}
 use Rattle.dirac_arith.specs.Spelling.{signed_spelling}
 
 -- the value in column x of row y of a band that is w wide
-abbrev pub value_at : ℕ → List ℤ → ℕ → ℕ → ℤ
-value_at w xs x y = slice_index_or xs (y * w + x) (pos 0)
+abbrev pub band_value : ℕ → List ℤ → ℕ → ℕ → ℤ
+band_value w xs x y = slice_index_or xs (y * w + x) (pos 0)
 
 -- the value to the left, inside the band
-abbrev pub left_of : ℕ → List ℤ → ℕ → ℕ → ℤ
-left_of w xs x y = if x == 0 then pos 0 else value_at w xs (x - 1) y
+abbrev pub value_left_of : ℕ → List ℤ → ℕ → ℕ → ℤ
+value_left_of w xs x y = if x == 0 then pos 0 else band_value w xs (x - 1) y
 
 -- the value above, inside the band
-abbrev pub above_of : ℕ → List ℤ → ℕ → ℕ → ℤ
-above_of w xs x y = if y == 0 then pos 0 else value_at w xs x (y - 1)
+abbrev pub value_above : ℕ → List ℤ → ℕ → ℕ → ℤ
+value_above w xs x y = if y == 0 then pos 0 else band_value w xs x (y - 1)
 
 -- the value above and to the left, inside the band
-abbrev pub corner_of : ℕ → List ℤ → ℕ → ℕ → ℤ
-corner_of w xs x y = if x == 0 then pos 0 else if y == 0 then pos 0 else value_at w xs (x - 1) (y - 1)
+abbrev pub value_in_corner : ℕ → List ℤ → ℕ → ℕ → ℤ
+value_in_corner w xs x y = if x == 0 then pos 0 else if y == 0 then pos 0 else band_value w xs (x - 1) (y - 1)
 
 -- the value of the parent band, which is half as wide; a band without a parent has an empty one, whose values are 0
 abbrev pub parent_of : ℕ → List ℤ → ℕ → ℕ → ℤ

@@ -6,10 +6,11 @@ use Rattle.dirac_common.specs.declared.formats.Band.{Band}
 use Rattle.dirac_arith.specs.Interval.{Decision}
 use Rattle.dirac_bands.specs.Geometry.{edge_of}
 use Rattle.dirac_coeffs.specs.declared.layout.BandLayout.{BandLayout}
-use Rattle.dirac_coeffs.specs.Contexts.{value_at, left_of, above_of, corner_of, parent_of, follow_among, sign_of}
+use Rattle.dirac_coeffs.specs.Contexts.{band_value, value_left_of, value_above, value_in_corner, parent_of}
+use Rattle.dirac_coeffs.specs.Contexts.{follow_among, sign_of}
 use Rattle.dirac_coeffs.specs.Contexts.{sign_neighbour, value_spelling}
 use Rattle.dirac_coeffs.specs.Indices.{offset_part}
-use Rattle.dirac_coeffs.specs.Layouts.{span_of, is_flagged}
+use Rattle.dirac_coeffs.specs.Layouts.{codeblock_extent, is_flagged}
 
 -- what the contexts of a band's values depend on besides the values
 pub record Frame : Type 0 where
@@ -34,25 +35,25 @@ frame_of layout parent = record { band = layout.band; width = layout.width; pare
 abbrev pub follow_here : Frame → List ℤ → ℕ → ℕ → List ℕ
 follow_here f xs x y =
     follow_among
-    (left_of f.width xs x y)
-    (above_of f.width xs x y)
-    (corner_of f.width xs x y)
+    (value_left_of f.width xs x y)
+    (value_above f.width xs x y)
+    (value_in_corner f.width xs x y)
     (parent_of f.width f.parent x y)
 
 -- the context of its sign
 abbrev pub sign_here : Frame → List ℤ → ℕ → ℕ → ℕ
-sign_here f xs x y = sign_of (sign_neighbour f.band (left_of f.width xs x y) (above_of f.width xs x y))
+sign_here f xs x y = sign_of (sign_neighbour f.band (value_left_of f.width xs x y) (value_above f.width xs x y))
 
 -- the value in column x of row y
 abbrev pub value_part : Frame → List ℤ → ℕ → ℕ → List Decision
 value_part f xs x y =
     value_spelling
     f.band
-    (left_of f.width xs x y)
-    (above_of f.width xs x y)
-    (corner_of f.width xs x y)
+    (value_left_of f.width xs x y)
+    (value_above f.width xs x y)
+    (value_in_corner f.width xs x y)
     (parent_of f.width f.parent x y)
-    (value_at f.width xs x y)
+    (band_value f.width xs x y)
 
 -- n values of row y, from column x on
 unfoldable pub row_part : Frame → List ℤ → ℕ → ℕ → ℕ → List Decision
@@ -81,9 +82,9 @@ block_part layout parent xs cy cx mark =
     (frame_of layout parent)
     xs
     (edge_of layout.width layout.across cx)
-    (span_of layout.width layout.across cx)
+    (codeblock_extent layout.width layout.across cx)
     (edge_of layout.height layout.down cy)
-    (span_of layout.height layout.down cy))
+    (codeblock_extent layout.height layout.down cy))
 
 -- the first n codeblocks of row cy of codeblocks
 unfoldable pub blocks_part : BandLayout → List ℤ → List ℤ → (ℕ → Mark) → ℕ → ℕ → List Decision

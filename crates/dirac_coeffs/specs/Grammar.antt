@@ -8,7 +8,7 @@ use Rattle.dirac_common.specs.Limits.{IsIndex}
 use Rattle.dirac_common.specs.declared.faults.Cause.{Cause}
 use Rattle.dirac_common.specs.declared.faults.Cause.TheVariants.{QuantIndex}
 use Rattle.dirac_common.specs.Table.{Table}
-use Rattle.dirac_bits.specs.Syntax.{Syntax, done, refuse, block_then, uint, align, here, field, between, ◌>>=◌}
+use Rattle.dirac_bits.specs.Syntax.{Syntax, done, refuse, block_then, uint, align, here, number_field, between, ◌>>=◌}
 use Rattle.dirac_coeffs.specs.declared.layout.BandLayout.{BandLayout}
 use Rattle.dirac_coeffs.specs.declared.layout.CodedBand.{CodedBand}
 use Rattle.dirac_coeffs.specs.BandRead.{Content, band_read}
@@ -36,7 +36,7 @@ band_from layout index at (Err cause) = refuse at cause
 -- a band with a block of this length
 unfoldable pub coded_band : BandLayout → List ℤ → ℕ → Syntax CodedBand
 coded_band layout parent len = do
-  index ← field QuantIndex (between 0 LARGEST_INDEX)
+  index ← number_field QuantIndex (between 0 LARGEST_INDEX)
   gap ← align
   at ← here
   block_then len (λ block. band_from layout index at (band_read layout parent index block))

@@ -4,7 +4,7 @@ use Rattle.dirac_common.specs.declared.faults.Cause.TheVariants.{CodeWord, Numbe
 use Rattle.dirac_common.specs.Limits.{IsIndex}
 use Rattle.dirac_arith.specs.Front.{front}
 use Rattle.dirac_coeffs.specs.declared.layout.BandLayout.{BandLayout}
-use Rattle.dirac_coeffs.specs.BandRead.{band_read, content}
+use Rattle.dirac_coeffs.specs.BandRead.{band_read, band_content}
 use Rattle.dirac_coeffs.specs.Carried.{CarriesBand, CarriesLong, CarriesNoIndex}
 use Rattle.dirac_coeffs.specs.Decisions.{Marks}
 use Rattle.dirac_coeffs.specs.Indices.{all_equal}
@@ -66,7 +66,7 @@ BandIsRead =
     (layout : BandLayout) (parent : List ℤ) (index : ℕ) (block : List ℕ) (xs : List ℤ) (is : List ℕ) →
     IsBandLayout layout →
     IsIndex index →
-    (band_read layout parent index block ≡ Ok (content xs is))
+    (band_read layout parent index block ≡ Ok (band_content xs is))
     ↔ ((ms : Marks) × CarriesBand layout parent index block xs is ms)
 
 -- in mode 0 each codeblock of a band that a block reads to has the band's index
@@ -76,7 +76,7 @@ PlainIsEqual =
     IsBandLayout layout →
     IsIndex index →
     layout.mode ≡ 0 →
-    band_read layout parent index block ≡ Ok (content xs is) →
+    band_read layout parent index block ≡ Ok (band_content xs is) →
     is ≡ all_equal layout index
 
 -- a block is refused for a number that is too long exactly where it carries the decisions up to one
@@ -96,8 +96,8 @@ NoIndexIsRefused =
     (band_read layout parent index block ≡ Err QuantIndex) ↔ CarriesNoIndex layout parent index block
 
 -- a block is refused for its first bits exactly where sixteen of them are ones
-abbrev pub OnesAreRefused : Type 0
-OnesAreRefused =
+abbrev pub OnesInBandAreRefused : Type 0
+OnesInBandAreRefused =
     (layout : BandLayout) (parent : List ℤ) (index : ℕ) (block : List ℕ) →
     (band_read layout parent index block ≡ Err CodeWord) ↔ (front block 16 ≡ 65535)
 

@@ -13,8 +13,8 @@ pub record IsBandLayout (layout : BandLayout) : Type 0 where
   pub mode : layout.mode ≤ 1
 
 -- how many columns or rows codeblock c of these has
-abbrev pub span_of : ℕ → ℕ → ℕ → ℕ
-span_of size count c = edge_of size count (c + 1) - edge_of size count c
+abbrev pub codeblock_extent : ℕ → ℕ → ℕ → ℕ
+codeblock_extent size count c = edge_of size count (c + 1) - edge_of size count c
 
 -- whether a subband with these codeblocks across and down is divided: it has more than one
 abbrev pub is_parted : ℕ × ℕ → Bool

@@ -6,7 +6,7 @@ use Rattle.dirac_common.specs.declared.faults.Cause.{Cause}
 use Rattle.dirac_common.specs.declared.faults.Cause.TheVariants.{QuantIndex}
 use Rattle.dirac_common.specs.declared.faults.Refusal.{Refusal}
 use Rattle.dirac_bits.specs.Cursor.{Cursor}
-use Rattle.dirac_bits.specs.Syntax.{Syntax, done, block_then, uint, align, here, field, between, ◌>>=◌, read}
+use Rattle.dirac_bits.specs.Syntax.{Syntax, done, block_then, uint, align, here, number_field, between, ◌>>=◌, read}
 use Rattle.dirac_coeffs.specs.declared.layout.BandLayout.{BandLayout}
 use Rattle.dirac_coeffs.specs.declared.layout.CodedBand.{CodedBand}
 use Rattle.dirac_coeffs.specs.BandRead.{Content, band_read}
@@ -21,7 +21,7 @@ pub record Found : Type 0 where
 -- where the block of this length stands
 unfoldable pub coded_site : ℕ → Syntax Found
 coded_site len = do
-  index ← field QuantIndex (between 0 LARGEST_INDEX)
+  index ← number_field QuantIndex (between 0 LARGEST_INDEX)
   gap ← align
   at ← here
   block_then len (λ block. done (record { index = index; at = at; block = block }))
@@ -34,14 +34,14 @@ site = do
   if len == 0 then done None else (coded_site len >>= λ s. done (Some s))
 
 -- the band of what its block reads to, or the refusal of its block
-abbrev pub band_of : BandLayout → ℕ → ℕ → Result Content Cause → Result CodedBand Refusal
-band_of layout index at (Ok c) =
+abbrev pub band_with_content : BandLayout → ℕ → ℕ → Result Content Cause → Result CodedBand Refusal
+band_with_content layout index at (Ok c) =
     Ok (record { index = index; indices = c.indices; table = band_table layout c.values })
-band_of layout index at (Err cause) = Err (record { at = at; cause = cause })
+band_with_content layout index at (Err cause) = Err (record { at = at; cause = cause })
 
 -- the band whose block was found
 abbrev pub coded_at : BandLayout → List ℤ → Found → Result CodedBand Refusal
-coded_at layout parent s = band_of layout s.index s.at (band_read layout parent s.index s.block)
+coded_at layout parent s = band_with_content layout s.index s.at (band_read layout parent s.index s.block)
 
 -- the band at this place
 abbrev pub band_at : BandLayout → List ℤ → Option Found → Result CodedBand Refusal
@@ -49,12 +49,12 @@ band_at layout parent None = Ok (zero_band layout)
 band_at layout parent (Some s) = coded_at layout parent s
 
 -- with the place behind it
-abbrev pub behind : Cursor → Result CodedBand Refusal → Result (CodedBand × Cursor) Refusal
-behind c (Ok b) = Ok (b, c)
-behind c (Err refusal) = Err refusal
+abbrev pub with_place_behind : Cursor → Result CodedBand Refusal → Result (CodedBand × Cursor) Refusal
+with_place_behind c (Ok b) = Ok (b, c)
+with_place_behind c (Err refusal) = Err refusal
 
 -- a band is read as its block is found, and then read there
 abbrev pub BandsAreReadAtSites : Type 0
 BandsAreReadAtSites =
     (layout : BandLayout) (parent : List ℤ) (c : Cursor)
-    → read (band layout parent) c ≡ (read site c >> λ x. behind x.1 (band_at layout parent x.0))
+    → read (band layout parent) c ≡ (read site c >> λ x. with_place_behind x.1 (band_at layout parent x.0))

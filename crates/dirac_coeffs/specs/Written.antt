@@ -10,10 +10,10 @@ pub use Rattle.dirac_bits.specs.Writing.{up_to_byte}
 use Rattle.dirac_bands.specs.Geometry.{edge_of}
 use Rattle.dirac_coeffs.specs.declared.layout.BandLayout.{BandLayout}
 use Rattle.dirac_coeffs.specs.declared.layout.CodedBand.{CodedBand}
-use Rattle.dirac_coeffs.specs.Contexts.{value_at, is_zero}
+use Rattle.dirac_coeffs.specs.Contexts.{band_value, is_zero}
 use Rattle.dirac_coeffs.specs.Decisions.{Marks, band_decisions}
 use Rattle.dirac_coeffs.specs.Indices.{place_of, index_at, index_before}
-use Rattle.dirac_coeffs.specs.Layouts.{span_of, is_flagged}
+use Rattle.dirac_coeffs.specs.Layouts.{codeblock_extent, is_flagged}
 
 -- whether all numbers below n pass
 unfoldable pub all_below : (ℕ → Bool) → ℕ → Bool
@@ -25,10 +25,10 @@ abbrev pub is_zero_block : BandLayout → List ℤ → ℕ → ℕ → Bool
 is_zero_block layout xs cy cx =
     all_below
     (λ i. all_below
-    (λ j. is_zero (value_at layout.width xs (edge_of layout.width layout.across cx + i)
+    (λ j. is_zero (band_value layout.width xs (edge_of layout.width layout.across cx + i)
     (edge_of layout.height layout.down cy + j)))
-    (span_of layout.height layout.down cy))
-    (span_of layout.width layout.across cx)
+    (codeblock_extent layout.height layout.down cy))
+    (codeblock_extent layout.width layout.across cx)
 
 -- a zero flag is true exactly for a codeblock of zeros or without values, and an offset leads from index to index
 abbrev pub marks_of : BandLayout → ℕ → List ℤ → List ℕ → Marks
@@ -57,11 +57,11 @@ abbrev pub is_zero_band : List ℤ → Bool
 is_zero_band xs = list_all is_zero xs
 
 -- the bits with a band behind them that has a block
-abbrev pub with_block : ℕ → List ℕ → List Bool → List Bool
-with_block index block bits = up_to_byte ((bits ++ uint (length block)) ++ uint index) ++ bits_of block
+abbrev pub with_band_block : ℕ → List ℕ → List Bool → List Bool
+with_band_block index block bits = up_to_byte ((bits ++ uint (length block)) ++ uint index) ++ bits_of block
 
 -- the bits with a band behind them; a band of zeros has length 0
 abbrev pub with_band : BandLayout → List ℤ → CodedBand → List Bool → List Bool
 with_band layout parent b bits =
     if is_zero_band b.table.values then up_to_byte bits ++ uint 0
-    else with_block b.index (block_of layout parent b.index b.table.values b.indices) (up_to_byte bits)
+    else with_band_block b.index (block_of layout parent b.index b.table.values b.indices) (up_to_byte bits)

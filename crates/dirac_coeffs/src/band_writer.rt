@@ -7,10 +7,10 @@ ghost use Rattle.dirac_coeffs.specs.Grammar.{band as band_grammar, values_of_par
 ghost use Rattle.dirac_coeffs.specs.Indices.{all_equal};
 ghost use Rattle.dirac_coeffs.specs.Layouts.{IsBandLayout};
 ghost use Rattle.dirac_coeffs.specs.Lent.{numbers_in};
-ghost use Rattle.dirac_coeffs.specs.Written.{AreIndicesOf, block_of, is_zero_band, with_block, with_band};
+ghost use Rattle.dirac_coeffs.specs.Written.{AreIndicesOf, block_of, is_zero_band, with_band_block, with_band};
 
 use crate::block_writer::write_below;
-use crate::coefficients::Coefficients;
+use crate::coefficients::{Coefficients, numbers_of};
 use crate::layout::{BandLayout, CodedBand};
 use crate::numbers::Numbers;
 use dirac_bits::BitWriter;
@@ -20,8 +20,8 @@ use std::alloc::Global;
 /// Writes the length of a block, a quantiser index and the block.
 fn write_indexed(w: &mut BitWriter, index: u8, block: &[u8]) -> Result<(), NoMemory>
     requires { length block.now + 1 < 2 ^ 39 }
-    ensures exact { OnOk result (w.new ≡ with_block index block.now w.old) }
-    ensures front { OnErr result (HoldsFront w.old w.new (with_block index block.now w.old)) }
+    ensures exact { OnOk result (w.new ≡ with_band_block index block.now w.old) }
+    ensures front { OnErr result (HoldsFront w.old w.new (with_band_block index block.now w.old)) }
 {
     w.uint(block.len() as u64)?;
     w.uint(u64::from(index))?;
@@ -40,10 +40,10 @@ fn write_coded(
     requires layout { IsBandLayout layout }
     requires band { IsCodedBand layout band.now }
     requires indices { AreIndicesOf layout band.now.index band.now.table.values band.now.indices }
-    ensures exact { OnOk result (w.new ≡ with_block band.now.index (block_of layout (numbers_in parent.entry)
+    ensures exact { OnOk result (w.new ≡ with_band_block band.now.index (block_of layout (numbers_in parent.entry)
         band.now.index
         band.now.table.values band.now.indices) w.old) }
-    ensures front { OnErr result (HoldsFront w.old w.new (with_block band.now.index (block_of layout
+    ensures front { OnErr result (HoldsFront w.old w.new (with_band_block band.now.index (block_of layout
         (numbers_in parent.entry)
         band.now.index band.now.table.values band.now.indices) w.old)) }
 {
@@ -79,8 +79,5 @@ pub fn write_band(
     if band.table.are_zeros() {
         return w.uint(0);
     }
-    match parent {
-        Some(table) => write_coded(alloc, w, layout, table.numbers(), band),
-        None => write_coded(alloc, w, layout, Numbers::Zeros(0), band),
-    }
+    write_coded(alloc, w, layout, numbers_of(parent), band)
 }

@@ -1,6 +1,6 @@
-ghost use Rattle.std.specs.Prelude.{◌≡◌, ◌*◌, None, pos, replicate, IfOk};
-ghost use Rattle.dirac_coeffs.specs.Answers.{GivesBlock, GivesNarrow};
-ghost use Rattle.dirac_coeffs.specs.BandRead.{band_read};
+ghost use Rattle.std.specs.Prelude.{◌≡◌, ◌*◌, true, None, pos, length, replicate, IfOk};
+ghost use Rattle.dirac_coeffs.specs.Answers.{Fills, GivesBlock, GivesNarrow, Holds, stopped_at};
+ghost use Rattle.dirac_coeffs.specs.BandRead.{band_read, band_content};
 ghost use Rattle.dirac_coeffs.specs.Carried.{AreLawful, CarriesLong, CarriesNoIndex};
 ghost use Rattle.dirac_coeffs.specs.Indices.{all_equal};
 ghost use Rattle.dirac_coeffs.specs.Layouts.{IsBandLayout};
@@ -9,7 +9,7 @@ ghost use Rattle.dirac_common.specs.Limits.{IsIndex};
 
 use crate::codeblocks::read_all;
 use crate::coefficients::Coefficients;
-use crate::indices::equal_indices;
+use crate::indices::{Indices, equal_indices};
 use crate::layout::{BandBlock, BandLayout};
 use crate::numbers::Numbers;
 use crate::store::{Unread, Values};
@@ -17,78 +17,91 @@ use dirac_arith::Decoder;
 use dirac_common::{Cause, NoMemory, Refusal, Stop};
 use std::alloc::Global;
 
-/// Zeros in 32 bits, for the values of a band.
-fn narrow_zeros(alloc: Global, layout: BandLayout) -> Result<Values, NoMemory>
+/// Zeros for the values of a band, in 64 bits or in 32.
+fn zeros(alloc: Global, layout: BandLayout, wide: bool) -> Result<Values, NoMemory>
     requires layout { IsBandLayout layout }
-    ensures { IfOk result (λ v. values_in v ≡ replicate (layout.width * layout.height) (pos 0)) }
+    ensures zeros { IfOk result (λ v. values_in v ≡ replicate (layout.width * layout.height) (pos 0)) }
+    ensures wide { wide ≡ true → IfOk result (λ v. IsNarrow v → ⊥) }
 {
-    let list = vec![in alloc; 0i32; layout.width as usize * layout.height as usize]?;
+    let count = layout.width as usize * layout.height as usize;
+    if wide {
+        let list = vec![in alloc; 0i64; count]?;
+        return Ok(Values::Wide(list));
+    }
+    let list = vec![in alloc; 0i32; count]?;
     Ok(Values::Narrow(list))
 }
 
-/// Zeros in 64 bits, for the values of a band.
-fn wide_zeros(alloc: Global, layout: BandLayout) -> Result<Values, NoMemory>
-    requires layout { IsBandLayout layout }
-    ensures zeros { IfOk result (λ v. values_in v ≡ replicate (layout.width * layout.height) (pos 0)) }
-    ensures wide { IfOk result (λ v. IsNarrow v → ⊥) }
-{
-    let list = vec![in alloc; 0i64; layout.width as usize * layout.height as usize]?;
-    Ok(Values::Wide(list))
-}
-
-/// Reads a block into these values, which are zeros; none where they are held in 32 bits and a value doesn't fit.
-fn read_into(
-    alloc: Global,
-    mut values: Values,
+/// Reads a block into values that are zeros, and indices that are the band's.
+fn read_content(
     block: &[u8],
-    at: u64,
+    values: &mut Values,
+    indices: &mut Indices,
     layout: BandLayout,
     parent: Numbers<'_>,
     index: u8,
+) -> Result<(), Unread>
+    requires layout { IsBandLayout layout }
+    requires zeros { values_in values.old ≡ replicate (layout.width * layout.height) (pos 0) }
+    requires equal { indices.old ≡ all_equal layout index }
+    ensures value { Fills (IsNarrow values.new) result (band_content (values_in values.new) indices.new)
+        (band_read layout (numbers_in parent.entry) index block.now) }
+    ensures len { length (values_in values.new) ≡ layout.width * layout.height }
+    ensures narrow { IsNarrow values.new → IsNarrow values.old }
+{
+    let mut decoder = Decoder::new(block);
+    read_all(&mut decoder, values, indices, layout, parent, index)
+}
+
+/// The block of these values and indices.
+fn held_block(
+    alloc: Global,
+    layout: BandLayout,
+    values: Values,
+    indices: Indices,
 ) -> Result<Option<BandBlock>, Stop>
     requires layout { IsBandLayout layout }
-    requires index { IsIndex index }
-    requires zeros { values_in values ≡ replicate (layout.width * layout.height) (pos 0) }
-    ensures value { GivesNarrow layout at result (band_read layout (numbers_in parent.entry) index block.now) }
-    ensures none { IfOk result (λ found. found ≡ None → IsNarrow values) }
+    requires len { length (values_in values) ≡ layout.width * layout.height }
+    ensures { Holds layout result (band_content (values_in values) indices) }
 {
-    let mut indices = equal_indices(alloc, layout, index)?;
-    let mut decoder = Decoder::new(block);
-    match read_all(
-        &mut decoder,
-        &mut values,
-        &mut indices,
-        layout,
-        parent,
-        index,
-    ) {
-        Ok(()) => {
-            let table = Coefficients::of_values(alloc, layout.width, layout.height, values)?;
-            Ok(Some(BandBlock { indices, table }))
-        }
-        Err(Unread::TooWide) => Ok(None),
-        Err(Unread::Refused(cause)) => Err(Stop::Refused(Refusal { at, cause })),
+    let table = Coefficients::of_values(alloc, layout.width, layout.height, values)?;
+    Ok(Some(BandBlock { indices, table }))
+}
+
+/// What is answered of a block at this place where its reading stopped.
+fn stopped(unread: Unread, at: u64) -> Result<Option<BandBlock>, Stop>
+    ensures { result ≡ stopped_at at unread }
+{
+    match unread {
+        Unread::TooWide => Ok(None),
+        Unread::Refused(cause) => Err(Stop::Refused(Refusal { at, cause })),
     }
 }
 
-/// Reads a block into values of 32 bits; none where one doesn't fit.
-fn read_narrow(
+/// Reads a block in 64 bits or in 32; none where a value doesn't fit 32.
+fn read_as(
     alloc: Global,
     block: &[u8],
     at: u64,
     layout: BandLayout,
     parent: Numbers<'_>,
     index: u8,
+    wide: bool,
 ) -> Result<Option<BandBlock>, Stop>
     requires layout { IsBandLayout layout }
     requires index { IsIndex index }
-    ensures { GivesNarrow layout at result (band_read layout (numbers_in parent.entry) index block.now) }
+    ensures value { GivesNarrow layout at result (band_read layout (numbers_in parent.entry) index block.now) }
+    ensures some { wide ≡ true → IfOk result (λ found. found ≡ None → ⊥) }
 {
-    let values = narrow_zeros(alloc, layout)?;
-    read_into(alloc, values, block, at, layout, parent, index)
+    let mut values = zeros(alloc, layout, wide)?;
+    let mut indices = equal_indices(alloc, layout, index)?;
+    match read_content(block, &mut values, &mut indices, layout, parent, index) {
+        Ok(()) => held_block(alloc, layout, values, indices),
+        Err(unread) => stopped(unread, at),
+    }
 }
 
-/// Reads a block into values of 64 bits.
+/// Reads a block in 64 bits.
 fn read_wide(
     alloc: Global,
     block: &[u8],
@@ -101,8 +114,7 @@ fn read_wide(
     requires index { IsIndex index }
     ensures { GivesBlock layout at result (band_read layout (numbers_in parent.entry) index block.now) }
 {
-    let values = wide_zeros(alloc, layout)?;
-    match read_into(alloc, values, block, at, layout, parent, index) {
+    match read_as(alloc, block, at, layout, parent, index, true) {
         Ok(Some(found)) => Ok(found),
         Ok(None) => unreachable!(),
         Err(stop) => Err(stop),
@@ -122,7 +134,7 @@ fn read_lent(
     requires index { IsIndex index }
     ensures { GivesBlock layout at result (band_read layout (numbers_in parent.entry) index block.now) }
 {
-    match read_narrow(alloc, block, at, layout, parent, index) {
+    match read_as(alloc, block, at, layout, parent, index, false) {
         Ok(Some(found)) => Ok(found),
         Ok(None) => read_wide(alloc, block, at, layout, parent, index),
         Err(stop) => Err(stop),

@@ -1,5 +1,5 @@
 ghost use Rattle.std.specs.Prelude.{◌≡◌, IfOk, Ok};
-ghost use Rattle.dirac_coeffs.specs.BandRead.{band_read, content};
+ghost use Rattle.dirac_coeffs.specs.BandRead.{band_read, band_content};
 ghost use Rattle.dirac_coeffs.specs.Carried.{AreLawful};
 ghost use Rattle.dirac_coeffs.specs.Layouts.{IsBandLayout};
 ghost use Rattle.dirac_coeffs.specs.Lent.{numbers_in};
@@ -28,7 +28,7 @@ pub fn write_below(
     ensures exact { IfOk result (λ block. block.items ≡ block_of layout (numbers_in parent.entry) index
         (numbers_in values.entry) indices.now) }
     ensures read_back { IfOk result (λ block. band_read layout (numbers_in parent.entry) index block.items
-        ≡ Ok (content (numbers_in values.entry) indices.now)) }
+        ≡ Ok (band_content (numbers_in values.entry) indices.now)) }
 {
     let mut encoder = Encoder::new(alloc);
     write_all(&mut encoder, values, indices, layout, parent, index)?;
@@ -51,7 +51,7 @@ pub fn write_block(
     requires indices { AreIndicesOf layout index values.now indices.now }
     ensures exact { IfOk result (λ block. block.items ≡ block_of layout parent.now index values.now indices.now) }
     ensures read_back { IfOk result (λ block. band_read layout parent.now index block.items
-        ≡ Ok (content values.now indices.now)) }
+        ≡ Ok (band_content values.now indices.now)) }
 {
     let values = Numbers::Wide(values);
     write_below(alloc, values, indices, layout, Numbers::Wide(parent), index)

@@ -4,7 +4,7 @@ ghost use Rattle.dirac_bands.specs.Geometry.{edge_of};
 ghost use Rattle.dirac_coeffs.specs.Carried.{AreSmall};
 ghost use Rattle.dirac_coeffs.specs.Decisions.{frame_of, rows_part, block_part, blocks_part, band_decisions};
 ghost use Rattle.dirac_coeffs.specs.Indices.{offset_part};
-ghost use Rattle.dirac_coeffs.specs.Layouts.{IsBandLayout, span_of};
+ghost use Rattle.dirac_coeffs.specs.Layouts.{IsBandLayout, codeblock_extent};
 ghost use Rattle.dirac_coeffs.specs.Written.{marks_of};
 ghost use Rattle.dirac_coeffs.specs.Lent.{numbers_in};
 
@@ -12,35 +12,11 @@ use crate::indices::Indices;
 use crate::layout::BandLayout;
 use crate::numbers::Numbers;
 use crate::offset_writer::write_offset;
-use crate::spans::{Codeblock, codeblock_span, has_flags};
-use crate::value_writer::write_rows;
+use crate::spans::{Codeblock, has_flags};
+use crate::value_writer::write_block_values;
 use crate::zeros::has_zeros_alone;
 use dirac_arith::{Encoder, ZERO_FLAG};
 use dirac_common::NoMemory;
-
-/// Writes the values of a codeblock.
-fn write_block_values(
-    encoder: &mut Encoder,
-    values: Numbers<'_>,
-    layout: BandLayout,
-    parent: Numbers<'_>,
-    codeblock: Codeblock,
-) -> Result<(), NoMemory>
-    requires layout { IsBandLayout layout }
-    requires row { codeblock.row < layout.down }
-    requires column { codeblock.column < layout.across }
-    requires len { length (numbers_in values) ≡ layout.width * layout.height }
-    requires magnitudes_bounded { AreSmall (numbers_in values) }
-    ensures { OnOk result (encoder.new ≡ narrowed_by encoder.old
-        (rows_part (frame_of layout (numbers_in parent.entry)) (numbers_in values.entry)
-        (edge_of layout.width layout.across codeblock.column)
-        (span_of layout.width layout.across codeblock.column) (edge_of layout.height layout.down codeblock.row)
-        (span_of layout.height layout.down codeblock.row))) }
-{
-    let columns = codeblock_span(layout.width, layout.across, codeblock.column);
-    let rows = codeblock_span(layout.height, layout.down, codeblock.row);
-    write_rows(encoder, values, layout, parent, rows, columns)
-}
 
 /// Writes a codeblock that isn't skipped: in mode 1 the offset of its index, and its values.
 fn write_unskipped(
@@ -63,8 +39,8 @@ fn write_unskipped(
         codeblock.column).offset
         ++ rows_part (frame_of layout (numbers_in parent.entry)) (numbers_in values.entry)
         (edge_of layout.width layout.across codeblock.column)
-        (span_of layout.width layout.across codeblock.column) (edge_of layout.height layout.down codeblock.row)
-        (span_of layout.height layout.down codeblock.row))) }
+        (codeblock_extent layout.width layout.across codeblock.column) (edge_of layout.height layout.down codeblock.row)
+        (codeblock_extent layout.height layout.down codeblock.row))) }
 {
     match write_offset(encoder, indices, layout, index, codeblock) {
         Ok(()) => write_block_values(encoder, values, layout, parent, codeblock),

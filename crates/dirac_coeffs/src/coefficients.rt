@@ -2,6 +2,7 @@ ghost use Rattle.std.specs.Prelude.{◌≡◌, ℕ, pos, true, false, ◌*◌, �
 ghost use Rattle.std.specs.Prelude.{slice_set, unsigned_abs, List, [], ◌++◌, IfOk, IfSome, None};
 ghost use Rattle.std.specs.List.{All};
 ghost use Rattle.dirac_common.specs.Table.{row_of, table_at};
+ghost use Rattle.dirac_coeffs.specs.Grammar.{values_of_parent};
 ghost use Rattle.dirac_coeffs.specs.Held.{IsLargest, zeros_of};
 ghost use Rattle.dirac_coeffs.specs.Lent.{numbers_in, values_in};
 ghost use Rattle.dirac_coeffs.specs.Written.{is_zero_band};
@@ -13,21 +14,21 @@ use std::alloc::Global;
 use std::marker::Model;
 
 /// The columns and rows of a band.
-#[derive(Clone, Copy, Debug)]
+#[derive(Clone, Copy)]
 pub struct BandSize {
     pub width: u32,
     pub height: u32,
 }
 
 /// Numbers in 32 bits, by rows.
-#[derive(Debug, Drop)]
+#[derive(Drop)]
 pub struct NarrowRows {
     size: BandSize,
     values: Vec<i32>,
 }
 
 /// Coefficients in 32 bits where each of them fits, else wide; no list of them where all are zeros.
-#[derive(Debug, Drop)]
+#[derive(Drop)]
 pub enum Held {
     Zeros(BandSize),
     Narrow(NarrowRows),
@@ -37,7 +38,7 @@ pub enum Held {
 /// The quantised coefficients of one subband, by rows from the top, and the largest of their magnitudes.
 ///
 /// They are seen as a table.
-#[derive(Debug, Drop)]
+#[derive(Drop)]
 pub struct Coefficients {
     held: Held,
     largest: u64,
@@ -75,10 +76,6 @@ impl Coefficients {
         requires down { table.height ≤ LARGEST_TABLE_SIDE }
         ensures { IfOk result (λ c. c ≡ table) }
     {
-        let size = BandSize {
-            width: table.width(),
-            height: table.height(),
-        };
         let mut values = Vec::with_capacity(alloc, table.values().len())?;
         let narrowed = append_all_narrowed(alloc, &table, &mut values)?;
         if !narrowed.all {
@@ -88,14 +85,26 @@ impl Coefficients {
                 largest,
             });
         }
-        if narrowed.largest == 0 {
-            return Ok(Coefficients::zeros(size.width, size.height));
+        Ok(Coefficients::of_rows(table.width(), table.height(), values, narrowed.largest))
+    }
+
+    /// The coefficients that stand in this list, by rows, and have this largest magnitude.
+    fn of_rows(width: u32, height: u32, values: Vec<i32>, largest: u32) -> Coefficients
+        requires across { (1 ≤ width) × (width ≤ LARGEST_TABLE_SIDE) }
+        requires down { (1 ≤ height) × (height ≤ LARGEST_TABLE_SIDE) }
+        requires len { length values.items ≡ width * height }
+        requires largest { IsLargest largest values.items }
+        ensures { result ≡ record { width = width; height = height; values = values.items } }
+    {
+        if largest == 0 {
+            return Coefficients::zeros(width, height);
         }
+        let size = BandSize { width, height };
         let rows = NarrowRows { size, values };
-        Ok(Coefficients {
+        Coefficients {
             held: Held::Narrow(rows),
-            largest: u64::from(narrowed.largest),
-        })
+            largest: u64::from(largest),
+        }
     }
 
     /// The coefficients that were read into these values, by rows.
@@ -128,15 +137,7 @@ impl Coefficients {
         ensures { result ≡ record { width = width; height = height; values = values.items } }
     {
         let largest = largest_narrow(values.as_slice());
-        if largest == 0 {
-            return Coefficients::zeros(width, height);
-        }
-        let size = BandSize { width, height };
-        let rows = NarrowRows { size, values };
-        Coefficients {
-            held: Held::Narrow(rows),
-            largest: u64::from(largest),
-        }
+        Coefficients::of_rows(width, height, values, largest)
     }
 
     /// Lends all of them, by rows.
@@ -238,6 +239,16 @@ impl Coefficients {
             Held::Wide(table) => wide.values_mut().copy_from_slice(table.values()),
         }
         Ok(wide)
+    }
+}
+
+/// Lends the values of a parent, none where there is no parent.
+pub fn numbers_of(parent: Option<&Coefficients>) -> Numbers<'_>
+    ensures { numbers_in result ≡ values_of_parent parent.entry }
+{
+    match parent {
+        Some(table) => table.numbers(),
+        None => Numbers::Zeros(0),
     }
 }
 

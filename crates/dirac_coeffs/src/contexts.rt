@@ -1,6 +1,7 @@
 ghost use Rattle.std.specs.Prelude.{◌≡◌, ◌+◌, ◌*◌, ◌<◌, ◌≤◌, ◌&&◌, Bool, length};
 ghost use Rattle.dirac_arith.specs.Spelling.{AreContexts, follow_at};
-ghost use Rattle.dirac_coeffs.specs.Contexts.{left_of, above_of, corner_of, parent_of, is_zero, follow_of, sign_of};
+ghost use Rattle.dirac_coeffs.specs.Contexts.{value_left_of, value_above, value_in_corner, parent_of, is_zero};
+ghost use Rattle.dirac_coeffs.specs.Contexts.{follow_of, sign_of};
 ghost use Rattle.dirac_coeffs.specs.Contexts.{sign_neighbour};
 ghost use Rattle.dirac_coeffs.specs.Lent.{numbers_in};
 
@@ -18,7 +19,7 @@ pub fn left_value(values: Numbers<'_>, width: usize, x: usize, y: usize) -> i64
     requires width { width ≤ LARGEST_TABLE_SIDE }
     requires row { y < LARGEST_TABLE_SIDE }
     requires inside { (y + 1) * width ≤ length (numbers_in values) }
-    ensures { result ≡ left_of width (numbers_in values.entry) x y }
+    ensures { result ≡ value_left_of width (numbers_in values.entry) x y }
 {
     if x == 0 {
         0
@@ -34,7 +35,7 @@ pub fn above_value(values: Numbers<'_>, width: usize, x: usize, y: usize) -> i64
     requires width { width ≤ LARGEST_TABLE_SIDE }
     requires row { y < LARGEST_TABLE_SIDE }
     requires inside { (y + 1) * width ≤ length (numbers_in values) }
-    ensures { result ≡ above_of width (numbers_in values.entry) x y }
+    ensures { result ≡ value_above width (numbers_in values.entry) x y }
 {
     if y == 0 {
         0
@@ -50,7 +51,7 @@ pub fn corner_value(values: Numbers<'_>, width: usize, x: usize, y: usize) -> i6
     requires width { width ≤ LARGEST_TABLE_SIDE }
     requires row { y < LARGEST_TABLE_SIDE }
     requires inside { (y + 1) * width ≤ length (numbers_in values) }
-    ensures { result ≡ corner_of width (numbers_in values.entry) x y }
+    ensures { result ≡ value_in_corner width (numbers_in values.entry) x y }
 {
     if x == 0 {
         0

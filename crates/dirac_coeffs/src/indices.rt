@@ -11,7 +11,7 @@ use std::marker::Model;
 /// The quantiser indices of a subband's codeblocks, by rows.
 ///
 /// It is seen as a list.
-#[derive(Debug, Drop)]
+#[derive(Drop)]
 pub struct Indices {
     list: Vec<u8>,
 }

@@ -1,7 +1,8 @@
 //! What holds of all subbands and blocks, each as the contract of a function that does nothing.
 ghost use Rattle.dirac_coeffs.specs.Laws.{OneBandIsCarried, NoBandBesideLong, NoBandBesideNoIndex, NotLongAndNoIndex};
 ghost use Rattle.dirac_coeffs.specs.Laws.{OnesCarryNothing};
-ghost use Rattle.dirac_coeffs.specs.Laws.{BandIsRead, PlainIsEqual, LongIsRefused, NoIndexIsRefused, OnesAreRefused};
+ghost use Rattle.dirac_coeffs.specs.Laws.{BandIsRead, PlainIsEqual, LongIsRefused, NoIndexIsRefused};
+ghost use Rattle.dirac_coeffs.specs.Laws.{OnesInBandAreRefused};
 ghost use Rattle.dirac_coeffs.specs.Laws.{BlocksAreShort};
 
 /// A block carries the decisions of one band at most, and none beside those of a number that is too long, or of an
@@ -21,7 +22,7 @@ pub fn a_block_reads_to_its_band()
     ensures plain { PlainIsEqual }
     ensures long { LongIsRefused }
     ensures no_index { NoIndexIsRefused }
-    ensures ones { OnesAreRefused }
+    ensures ones { OnesInBandAreRefused }
 {}
 
 /// The length of a subband's block can be spelt.

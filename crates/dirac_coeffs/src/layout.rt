@@ -5,7 +5,7 @@ use dirac_common::Band;
 /// Which subband of a level a block holds: its orientation, its size in coefficients, the number of codeblocks that it
 /// is divided into, across and down, and the codeblock mode: in mode 0 all codeblocks have the band's quantiser index,
 /// in mode 1 each may change it.
-#[derive(Clone, Copy, Debug, PartialEq, Eq)]
+#[derive(Clone, Copy)]
 pub struct BandLayout {
     pub band: Band,
     pub width: u32,
@@ -16,7 +16,7 @@ pub struct BandLayout {
 }
 
 /// What the arithmetic block of a subband holds: the quantiser index of each codeblock, and the quantised coefficients.
-#[derive(Debug, Drop)]
+#[derive(Drop)]
 pub struct BandBlock {
     pub indices: Indices,
     pub table: Coefficients,
@@ -25,7 +25,7 @@ pub struct BandBlock {
 /// A subband as it is coded: its quantiser index, that of each codeblock by rows, and the quantised coefficients. In
 /// codeblock mode 0 each codeblock has the band's index; in mode 1 a skipped one has that of the codeblock before it,
 /// at first the band's. Where the block's length is 0 all three are zeros.
-#[derive(Debug, Drop)]
+#[derive(Drop)]
 pub struct CodedBand {
     pub index: u8,
     pub indices: Indices,

@@ -12,7 +12,7 @@ use dirac_common::NoMemory;
 /// What leads from a former index to an index.
 fn difference_of(index: u8, former: u8) -> i64
     ensures value { result ≡ pos index -ℤ pos former }
-    ensures small { unsigned_abs result < 2 ^ 39 - 1 }
+    ensures magnitude_can_be_spelt { unsigned_abs result < 2 ^ 39 - 1 }
 {
     i64::from(index) - i64::from(former)
 }

@@ -1,6 +1,6 @@
 ghost use Rattle.std.specs.Prelude.{◌≡◌, pos, ◌+◌, ◌-◌, ◌+ℤ◌, ◌*◌, ◌^◌, ◌<◌, ◌≤◌, true, length, unsigned_abs};
-ghost use Rattle.dirac_arith.specs.Coded.{read};
-ghost use Rattle.dirac_arith.specs.Deciding.{Gives};
+ghost use Rattle.dirac_arith.specs.Coded.{read_coded};
+ghost use Rattle.dirac_arith.specs.Deciding.{GivesReading};
 ghost use Rattle.dirac_coeffs.specs.Answers.{Moves};
 ghost use Rattle.dirac_coeffs.specs.BandRead.{offset_step};
 ghost use Rattle.dirac_coeffs.specs.Indices as spec;
@@ -39,7 +39,7 @@ fn as_index(sum: i64) -> u8
 /// Reads an index as an offset from a former one.
 fn read_index(decoder: &mut Decoder<'_>, former: u8) -> Result<u8, Cause>
     requires no_overflow { decoder.old.at.doublings < 2 ^ 61 }
-    ensures value { Gives result decoder.new (read (spec.index_coded former) decoder.old) }
+    ensures value { GivesReading result decoder.new (read_coded (spec.index_coded former) decoder.old) }
     ensures few_doublings { decoder.new.at.doublings ≤ decoder.old.at.doublings + 702 }
 {
     match decoder.signed(&OFFSET_FOLLOW, OFFSET_DIGITS, OFFSET_SIGN) {
@@ -68,7 +68,7 @@ pub fn read_offset(
     requires column { codeblock.column < layout.across }
     requires count { length indices.old ≡ layout.across * layout.down }
     requires no_overflow { decoder.old.at.doublings < 2 ^ 61 }
-    ensures value { Moves result indices.new decoder.new (read (offset_step layout.mode index
+    ensures value { Moves result indices.new decoder.new (read_coded (offset_step layout.mode index
         (spec.place_of layout codeblock.row codeblock.column) indices.old) decoder.old) }
     ensures count { length indices.new ≡ length indices.old }
     ensures few_doublings { decoder.new.at.doublings ≤ decoder.old.at.doublings + 702 }

@@ -1,13 +1,14 @@
 ghost use Rattle.std.specs.Prelude.{◌≡◌, ⊤, ℕ, pos, replicate, ◌+◌, ◌*◌, ◌^◌, ◌<◌, ◌≤◌, length};
-ghost use Rattle.dirac_arith.specs.Coded.{read};
+ghost use Rattle.dirac_arith.specs.Coded.{read_coded};
 ghost use Rattle.dirac_coeffs.specs.Answers.{Goes};
-ghost use Rattle.dirac_coeffs.specs.BandRead.{row_step, rows_step};
+ghost use Rattle.dirac_coeffs.specs.BandRead.{filled_step, row_step};
 ghost use Rattle.dirac_coeffs.specs.Decisions.{frame_of};
+ghost use Rattle.dirac_coeffs.specs.Layouts.{IsBandLayout, codeblock_extent};
 ghost use Rattle.dirac_coeffs.specs.Lent.{IsNarrow, numbers_in, values_in};
 
 use crate::layout::BandLayout;
 use crate::numbers::Numbers;
-use crate::spans::Span;
+use crate::spans::{Codeblock, Span, codeblock_span};
 use crate::store::{Unread, Values};
 use crate::values::read_narrow_row;
 use crate::wide_values::read_wide_row;
@@ -27,7 +28,7 @@ fn read_row_below_zeros(
     requires row { y < LARGEST_TABLE_SIDE }
     requires inside { (y + 1) * layout.width ≤ length values.old }
     requires no_overflow { decoder.old.at.doublings < 2 ^ 60 }
-    ensures value { (count : ℕ) → Goes ⊤ result values.new decoder.new (read (row_step
+    ensures value { (count : ℕ) → Goes ⊤ result values.new decoder.new (read_coded (row_step
         (frame_of layout (replicate count (pos 0))) y columns.start columns.length values.old) decoder.old) }
     ensures len { length values.new ≡ length values.old }
     ensures few_doublings { decoder.new.at.doublings ≤ decoder.old.at.doublings + 702 * columns.length }
@@ -49,7 +50,7 @@ fn read_row(
     requires row { y < LARGEST_TABLE_SIDE }
     requires inside { (y + 1) * layout.width ≤ length (values_in values.old) }
     requires no_overflow { decoder.old.at.doublings < 2 ^ 60 }
-    ensures value { Goes (IsNarrow values.new) result (values_in values.new) decoder.new (read (row_step
+    ensures value { Goes (IsNarrow values.new) result (values_in values.new) decoder.new (read_coded (row_step
         (frame_of layout (numbers_in parent.entry)) y columns.start columns.length (values_in values.old))
         decoder.old) }
     ensures len { length (values_in values.new) ≡ length (values_in values.old) }
@@ -76,28 +77,29 @@ fn read_row(
     }
 }
 
-/// Reads the values of these columns of these rows.
-pub fn read_rows(
+/// Reads the values of a codeblock.
+pub fn read_block_values(
     decoder: &mut Decoder<'_>,
     values: &mut Values,
     layout: BandLayout,
     parent: Numbers<'_>,
-    rows: Span,
-    columns: Span,
+    codeblock: Codeblock,
 ) -> Result<(), Unread>
-    requires columns { columns.start + columns.length ≤ layout.width }
-    requires width { layout.width ≤ LARGEST_TABLE_SIDE }
-    requires rows { rows.start + rows.length ≤ LARGEST_TABLE_SIDE }
-    requires inside { (rows.start + rows.length) * layout.width ≤ length (values_in values.old) }
-    requires no_overflow { decoder.old.at.doublings < 2 ^ 59 }
-    ensures value { Goes (IsNarrow values.new) result (values_in values.new) decoder.new (read (rows_step
-        (frame_of layout (numbers_in parent.entry)) columns.start columns.length rows.start rows.length
-        (values_in values.old)) decoder.old) }
+    requires layout { IsBandLayout layout }
+    requires row { codeblock.row < layout.down }
+    requires column { codeblock.column < layout.across }
+    requires len { length (values_in values.old) ≡ layout.width * layout.height }
+    requires no_overflow { decoder.old.at.doublings < 2 ^ 58 }
+    ensures value { Goes (IsNarrow values.new) result (values_in values.new) decoder.new (read_coded (filled_step layout
+        (numbers_in parent.entry) codeblock.row codeblock.column (values_in values.old)) decoder.old) }
     ensures len { length (values_in values.new) ≡ length (values_in values.old) }
     ensures narrow { IsNarrow values.new → IsNarrow values.old }
-    ensures few_doublings { decoder.new.at.doublings ≤ decoder.old.at.doublings + 702 * LARGEST_TABLE_SIDE
-        * columns.length }
+    ensures few_doublings { decoder.new.at.doublings ≤ decoder.old.at.doublings
+        + 702 * LARGEST_TABLE_SIDE * codeblock_extent
+        layout.width layout.across codeblock.column }
 {
+    let columns = codeblock_span(layout.width, layout.across, codeblock.column);
+    let rows = codeblock_span(layout.height, layout.down, codeblock.row);
     'rows: for j in 0..rows.length {
         read_row(decoder, values, layout, parent, rows.start + j, columns)?;
     }

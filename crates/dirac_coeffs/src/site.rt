@@ -1,7 +1,7 @@
 ghost use Rattle.std.specs.Prelude.{◌≡◌, ◌≤◌, length, IfOk, IfErr, IfSome};
 ghost use Rattle.dirac_common.specs.Limits.{IsIndex};
 ghost use Rattle.dirac_bits.specs.Syntax.{read};
-ghost use Rattle.dirac_bits.specs.Answers.{Reads};
+ghost use Rattle.dirac_bits.specs.Answers.{ReadsSeenBy};
 ghost use Rattle.dirac_coeffs.specs.Sites.{coded_site, site};
 
 use dirac_bits::BitReader;
@@ -50,7 +50,7 @@ impl<'a> Site<'a> {
 /// Finds the block, of this length, of a subband of which something is coded.
 #[tactic(auto, unfolding(crate::specs::Sites::coded_site))]
 fn find_coded<'a>(r: &mut BitReader<'a>, len: u64) -> Result<Site<'a>, Refusal>
-    ensures value { Reads (λ s. s) result r.new (read (coded_site len) r.old) }
+    ensures value { ReadsSeenBy (λ s. s) result r.new (read (coded_site len) r.old) }
     ensures place_inside { IfErr result (λ e. e.at ≤ length r.old.bytes) }
     ensures kept { r.new.bytes ≡ r.old.bytes }
     ensures index { IfOk result (λ s. IsIndex s.index) }
@@ -66,18 +66,20 @@ fn find_coded<'a>(r: &mut BitReader<'a>, len: u64) -> Result<Site<'a>, Refusal>
     }
     r.align();
     let at = r.place();
-    let block = r.block(len)?;
-    Ok(Site {
-        index: index as u8,
-        at,
-        block,
-    })
+    match r.block(len) {
+        Ok(block) => Ok(Site {
+            index: index as u8,
+            at,
+            block,
+        }),
+        Err(refusal) => Err(refusal),
+    }
 }
 
 /// Finds the block of a subband, and passes over it; none where nothing is coded. It depends on no other subband.
 #[tactic(auto, unfolding(crate::specs::Sites::site), using(dirac_bits::specs::Then::read_then))]
 pub fn find_site<'a>(r: &mut BitReader<'a>) -> Result<Option<Site<'a>>, Refusal>
-    ensures value { Reads (λ s. s) result r.new (read site r.old) }
+    ensures value { ReadsSeenBy (λ s. s) result r.new (read site r.old) }
     ensures place_inside { IfErr result (λ e. e.at ≤ length r.old.bytes) }
     ensures kept { r.new.bytes ≡ r.old.bytes }
     ensures index { IfOk result (λ found. IfSome found (λ s. IsIndex s.index)) }
@@ -88,6 +90,8 @@ pub fn find_site<'a>(r: &mut BitReader<'a>) -> Result<Option<Site<'a>>, Refusal>
     if len == 0 {
         return Ok(None);
     }
-    let site = find_coded(r, len)?;
-    Ok(Some(site))
+    match find_coded(r, len) {
+        Ok(site) => Ok(Some(site)),
+        Err(refusal) => Err(refusal),
+    }
 }

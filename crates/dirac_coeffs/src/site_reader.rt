@@ -1,14 +1,14 @@
-ghost use Rattle.std.specs.Prelude.{◌≡◌, IfOk, IfSome};
+ghost use Rattle.std.specs.Prelude.{IfOk, IfSome, Ok};
 ghost use Rattle.std.specs.Option.{ForSome};
 ghost use Rattle.dirac_common.specs.Limits.{IsIndex};
 ghost use Rattle.dirac_coeffs.specs.Answers.{GivesOrStops};
-ghost use Rattle.dirac_coeffs.specs.Grammar.{values_of_parent, IsParentOf, IsCodedBand};
+ghost use Rattle.dirac_coeffs.specs.Grammar.{values_of_parent, zero_band, IsParentOf, IsCodedBand};
 ghost use Rattle.dirac_coeffs.specs.Layouts.{IsBandLayout};
 ghost use Rattle.dirac_coeffs.specs.Lent.{numbers_in};
 ghost use Rattle.dirac_coeffs.specs.Sites.{band_at, coded_at};
 
 use crate::block::read_below;
-use crate::coefficients::Coefficients;
+use crate::coefficients::{Coefficients, numbers_of};
 use crate::indices::equal_indices;
 use crate::layout::{BandLayout, CodedBand};
 use crate::numbers::Numbers;
@@ -37,6 +37,21 @@ fn read_coded_at(
     })
 }
 
+/// The subband of which nothing is coded.
+fn read_zeros(alloc: Global, layout: BandLayout) -> Result<CodedBand, Stop>
+    requires { IsBandLayout layout }
+    ensures value { GivesOrStops result (Ok (zero_band layout)) }
+    ensures lawful { IfOk result (IsCodedBand layout) }
+{
+    let indices = equal_indices(alloc, layout, 0)?;
+    let table = Coefficients::zeros(layout.width, layout.height);
+    Ok(CodedBand {
+        index: 0,
+        indices,
+        table,
+    })
+}
+
 /// Reads the subband whose block was found, as `read_band` reads it there; so subbands that aren't parents of one
 /// another may be read in any order, or side by side. `parent` is that of `read_band`.
 pub fn read_at(
@@ -52,16 +67,7 @@ pub fn read_at(
     ensures lawful { IfOk result (IsCodedBand layout) }
 {
     let Some(found) = site else {
-        let indices = equal_indices(alloc, layout, 0)?;
-        let table = Coefficients::zeros(layout.width, layout.height);
-        return Ok(CodedBand {
-            index: 0,
-            indices,
-            table,
-        });
+        return read_zeros(alloc, layout);
     };
-    match parent {
-        Some(table) => read_coded_at(alloc, found, layout, table.numbers()),
-        None => read_coded_at(alloc, found, layout, Numbers::Zeros(0)),
-    }
+    read_coded_at(alloc, found, layout, numbers_of(parent))
 }

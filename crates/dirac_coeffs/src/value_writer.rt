@@ -1,14 +1,16 @@
 ghost use Rattle.std.specs.Prelude.{◌≡◌, ◌+◌, ◌*◌, ◌<◌, ◌≤◌, ◌^◌, ◌-◌, length, IfOk, OnOk, unsigned_abs};
 ghost use Rattle.dirac_arith.specs.Interval.{narrowed_by};
+ghost use Rattle.dirac_bands.specs.Geometry.{edge_of};
 ghost use Rattle.dirac_coeffs.specs.Carried.{AreSmall};
-ghost use Rattle.dirac_coeffs.specs.Contexts.{corner_of, left_of, value_spelling};
+ghost use Rattle.dirac_coeffs.specs.Contexts.{value_in_corner, value_left_of, value_spelling};
 ghost use Rattle.dirac_coeffs.specs.Decisions.{frame_of, value_part, row_part, rows_part};
+ghost use Rattle.dirac_coeffs.specs.Layouts.{IsBandLayout, codeblock_extent};
 ghost use Rattle.dirac_coeffs.specs.Lent.{numbers_in};
 
 use crate::contexts;
 use crate::layout::BandLayout;
 use crate::numbers::{Numbers, number_at};
-use crate::spans::Span;
+use crate::spans::{Codeblock, Span, codeblock_span};
 use dirac_arith::{COEFFICIENT_DIGITS, Encoder};
 use dirac_common::{Band, LARGEST_TABLE_SIDE, NoMemory};
 
@@ -75,12 +77,13 @@ fn write_at(
     requires row { y < LARGEST_TABLE_SIDE }
     requires inside { (y + 1) * layout.width ≤ length (numbers_in values) }
     requires magnitudes_bounded { AreSmall (numbers_in values) }
-    requires left { beside.left ≡ left_of layout.width (numbers_in values) x y }
-    requires corner { beside.corner ≡ corner_of layout.width (numbers_in values) x y }
+    requires left { beside.left ≡ value_left_of layout.width (numbers_in values) x y }
+    requires corner { beside.corner ≡ value_in_corner layout.width (numbers_in values) x y }
     ensures written { OnOk result (encoder.new ≡ narrowed_by encoder.old
         (value_part (frame_of layout (numbers_in parent.entry)) (numbers_in values.entry) x y)) }
-    ensures left { IfOk result (λ next. next.left ≡ left_of layout.width (numbers_in values.entry) (x + 1) y) }
-    ensures corner { IfOk result (λ next. next.corner ≡ corner_of layout.width (numbers_in values.entry) (x + 1) y) }
+    ensures left { IfOk result (λ next. next.left ≡ value_left_of layout.width (numbers_in values.entry) (x + 1) y) }
+    ensures corner { IfOk result
+        (λ next. next.corner ≡ value_in_corner layout.width (numbers_in values.entry) (x + 1) y) }
 {
     let width = layout.width as usize;
     let Beside { left, corner } = beside;
@@ -180,24 +183,27 @@ fn write_row(
     }
 }
 
-/// Writes the values of these columns of these rows.
-pub fn write_rows(
+/// Writes the values of a codeblock.
+pub fn write_block_values(
     encoder: &mut Encoder,
     values: Numbers<'_>,
     layout: BandLayout,
     parent: Numbers<'_>,
-    rows: Span,
-    columns: Span,
+    codeblock: Codeblock,
 ) -> Result<(), NoMemory>
-    requires columns { columns.start + columns.length ≤ layout.width }
-    requires width { layout.width ≤ LARGEST_TABLE_SIDE }
-    requires rows { rows.start + rows.length ≤ LARGEST_TABLE_SIDE }
-    requires inside { (rows.start + rows.length) * layout.width ≤ length (numbers_in values) }
+    requires layout { IsBandLayout layout }
+    requires row { codeblock.row < layout.down }
+    requires column { codeblock.column < layout.across }
+    requires len { length (numbers_in values) ≡ layout.width * layout.height }
     requires magnitudes_bounded { AreSmall (numbers_in values) }
-    ensures { OnOk result (encoder.new ≡ narrowed_by encoder.old (rows_part (frame_of layout (numbers_in parent.entry))
-        (numbers_in values.entry)
-        columns.start columns.length rows.start rows.length)) }
+    ensures { OnOk result (encoder.new ≡ narrowed_by encoder.old
+        (rows_part (frame_of layout (numbers_in parent.entry)) (numbers_in values.entry)
+        (edge_of layout.width layout.across codeblock.column)
+        (codeblock_extent layout.width layout.across codeblock.column) (edge_of layout.height layout.down codeblock.row)
+        (codeblock_extent layout.height layout.down codeblock.row))) }
 {
+    let columns = codeblock_span(layout.width, layout.across, codeblock.column);
+    let rows = codeblock_span(layout.height, layout.down, codeblock.row);
     'rows: for j in 0..rows.length {
         write_row(encoder, values, layout, parent, rows.start + j, columns)?;
     }

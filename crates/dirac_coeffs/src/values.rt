@@ -1,15 +1,16 @@
 ghost use Rattle.std.specs.Prelude.{◌≡◌, ⊤, ◌+◌, ◌*◌, ◌^◌, ◌<◌, ◌≤◌, Bool, true, false, length, slice_set, IfOk};
 ghost use Rattle.std.specs.Prelude.{IfErr, OnErr};
 ghost use Rattle.std.specs.Prelude.{Ok, Err};
-ghost use Rattle.dirac_arith.specs.Coded.{read};
-ghost use Rattle.dirac_arith.specs.Deciding.{Gives, decided, signed_read};
+ghost use Rattle.dirac_arith.specs.Coded.{read_coded};
+ghost use Rattle.dirac_arith.specs.Deciding.{GivesReading, decision_read, signed_read};
 ghost use Rattle.dirac_arith.specs.Decoding.{reading_at};
 ghost use Rattle.dirac_arith.specs.Reading.{Reading};
 ghost use Rattle.dirac_arith.specs.Registers.{Runs, doublings_of};
 ghost use Rattle.dirac_arith.specs.Spelling.{follow_at};
 ghost use Rattle.dirac_coeffs.specs.Answers.{Goes, RefusedBy};
 ghost use Rattle.dirac_coeffs.specs.BandRead.{value_step, row_step};
-ghost use Rattle.dirac_coeffs.specs.Contexts.{above_of, follow_among, follow_of, bits_context, corner_of, left_of};
+ghost use Rattle.dirac_coeffs.specs.Contexts.{value_above, follow_among, follow_of, bits_context, value_in_corner};
+ghost use Rattle.dirac_coeffs.specs.Contexts.{value_left_of};
 ghost use Rattle.dirac_coeffs.specs.Contexts.{sign_of};
 ghost use Rattle.dirac_coeffs.specs.Contexts.{sign_neighbour};
 ghost use Rattle.dirac_coeffs.specs.Decisions.{frame_of};
@@ -50,8 +51,9 @@ fn read_further(
     requires no_overflow { decoder.old.at.doublings < 2 ^ 61 + 9 }
     ensures read { (parent neighbours : Bool) (before : Reading) →
         let follow = follow_of parent neighbours in
-        first ≡ follow_at follow 0 → decided first before ≡ Ok (false, decoder.old) →
-        Gives result decoder.new (signed_read follow bits_context (sign_of (sign_neighbour band left above)) before) }
+        first ≡ follow_at follow 0 → decision_read first before ≡ Ok (false, decoder.old) →
+        GivesReading result decoder.new
+        (signed_read follow bits_context (sign_of (sign_neighbour band left above)) before) }
     ensures few_doublings { decoder.new.at.doublings ≤ decoder.old.at.doublings + 693 }
 {
     let follow = contexts::follow_from(first);
@@ -140,17 +142,18 @@ fn read_at(
     requires width { layout.width ≤ LARGEST_TABLE_SIDE }
     requires row { at.row < LARGEST_TABLE_SIDE }
     requires inside { (at.row + 1) * layout.width ≤ length values.old }
-    requires left { neighbours.left ≡ left_of layout.width values.old at.column at.row }
-    requires above { neighbours.above ≡ above_of layout.width values.old at.column at.row }
-    requires corner { neighbours.corner ≡ corner_of layout.width values.old at.column at.row }
+    requires left { neighbours.left ≡ value_left_of layout.width values.old at.column at.row }
+    requires above { neighbours.above ≡ value_above layout.width values.old at.column at.row }
+    requires corner { neighbours.corner ≡ value_in_corner layout.width values.old at.column at.row }
     requires no_overflow { doublings_of registers < 2 ^ 61 }
-    ensures value { IfOk result (λ v. read (value_step (frame_of layout parent.now) at.column at.row values.old)
+    ensures value { IfOk result (λ v. read_coded (value_step (frame_of layout parent.now) at.column at.row values.old)
         (reading_at decoder.old registers) ≡ Ok (values.new, reading_at decoder.new v.registers)) }
     ensures runs { IfOk result (λ v. Runs decoder.new.block v.registers) }
     ensures few_doublings { IfOk result (λ v. doublings_of v.registers ≤ doublings_of registers + 702) }
     ensures written { IfOk result (λ v. values.new ≡ slice_set values.old (at.row * layout.width + at.column) v.value) }
     ensures len { length values.new ≡ length values.old }
-    ensures refused { IfErr result (λ e. RefusedBy ⊤ e (read (value_step (frame_of layout parent.now) at.column at.row
+    ensures refused { IfErr result
+        (λ e. RefusedBy ⊤ e (read_coded (value_step (frame_of layout parent.now) at.column at.row
         values.old) (reading_at decoder.old registers))) }
     ensures few_then { OnErr result (decoder.new.at.doublings ≤ doublings_of registers + 702) }
 {
@@ -184,7 +187,8 @@ pub fn read_narrow_row(
     requires row { y < LARGEST_TABLE_SIDE }
     requires inside { (y + 1) * layout.width ≤ length values.old }
     requires no_overflow { decoder.old.at.doublings < 2 ^ 60 }
-    ensures value { Goes ⊤ result values.new decoder.new (read (row_step (frame_of layout parent.now) y columns.start
+    ensures value { Goes ⊤ result values.new decoder.new
+        (read_coded (row_step (frame_of layout parent.now) y columns.start
         columns.length values.old) decoder.old) }
     ensures len { length values.new ≡ length values.old }
     ensures few_doublings { decoder.new.at.doublings ≤ decoder.old.at.doublings + 702 * columns.length }

@@ -1,5 +1,5 @@
 ghost use Rattle.std.specs.Prelude.{◌≡◌, ◌+◌, ◌*◌, ◌^◌, ◌<◌, ◌≤◌, length};
-ghost use Rattle.dirac_arith.specs.Coded.{read};
+ghost use Rattle.dirac_arith.specs.Coded.{read_coded};
 ghost use Rattle.dirac_coeffs.specs.Answers.{Moves};
 ghost use Rattle.dirac_coeffs.specs.BandRead.{value_step, row_step};
 ghost use Rattle.dirac_coeffs.specs.Decisions.{frame_of};
@@ -26,7 +26,8 @@ fn read_wide_value(
     requires row { y < LARGEST_TABLE_SIDE }
     requires inside { (y + 1) * layout.width ≤ length values.old }
     requires no_overflow { decoder.old.at.doublings < 2 ^ 61 }
-    ensures value { Moves result values.new decoder.new (read (value_step (frame_of layout (numbers_in parent.entry)) x
+    ensures value { Moves result values.new decoder.new
+        (read_coded (value_step (frame_of layout (numbers_in parent.entry)) x
         y values.old) decoder.old) }
     ensures len { length values.new ≡ length values.old }
     ensures few_doublings { decoder.new.at.doublings ≤ decoder.old.at.doublings + 702 }
@@ -61,7 +62,8 @@ pub fn read_wide_row(
     requires row { y < LARGEST_TABLE_SIDE }
     requires inside { (y + 1) * layout.width ≤ length values.old }
     requires no_overflow { decoder.old.at.doublings < 2 ^ 60 }
-    ensures value { Moves result values.new decoder.new (read (row_step (frame_of layout (numbers_in parent.entry)) y
+    ensures value { Moves result values.new decoder.new
+        (read_coded (row_step (frame_of layout (numbers_in parent.entry)) y
         columns.start columns.length values.old) decoder.old) }
     ensures len { length values.new ≡ length values.old }
     ensures few_doublings { decoder.new.at.doublings ≤ decoder.old.at.doublings + 702 * columns.length }

@@ -1,8 +1,8 @@
 ghost use Rattle.std.specs.Prelude.{◌≡◌, ℕ, ◌+◌, ◌*◌, ◌<◌, ◌≤◌, pos, true, false, length};
 ghost use Rattle.dirac_bands.specs.Geometry.{edge_of};
 ghost use Rattle.dirac_coeffs.specs.Written.{is_zero_block};
-ghost use Rattle.dirac_coeffs.specs.Contexts.{value_at};
-ghost use Rattle.dirac_coeffs.specs.Layouts.{IsBandLayout, span_of};
+ghost use Rattle.dirac_coeffs.specs.Contexts.{band_value};
+ghost use Rattle.dirac_coeffs.specs.Layouts.{IsBandLayout, codeblock_extent};
 ghost use Rattle.dirac_coeffs.specs.Lent.{numbers_in};
 
 use crate::contexts::is_zero_value;
@@ -18,8 +18,8 @@ fn is_zero_row(values: Numbers<'_>, width: usize, y: usize, from: usize, count: 
     requires row { y < LARGEST_TABLE_SIDE }
     requires inside { (y + 1) * width ≤ length (numbers_in values) }
     ensures zeros { result ≡ true → (i : ℕ) → i < count
-        → value_at width (numbers_in values.entry) (from + i) y ≡ pos 0 }
-    ensures others { result ≡ false → ((i : ℕ) → i < count → value_at width (numbers_in values.entry) (from + i) y ≡
+        → band_value width (numbers_in values.entry) (from + i) y ≡ pos 0 }
+    ensures others { result ≡ false → ((i : ℕ) → i < count → band_value width (numbers_in values.entry) (from + i) y ≡
         pos 0) → ⊥ }
 {
     'values: for i in 0..count {
@@ -37,9 +37,9 @@ fn are_zero_rows(values: Numbers<'_>, width: usize, rows: Span, columns: Span) -
     requires rows { rows.start + rows.length ≤ LARGEST_TABLE_SIDE }
     requires inside { (rows.start + rows.length) * width ≤ length (numbers_in values) }
     ensures zeros { result ≡ true → (i j : ℕ) → i < columns.length → j < rows.length
-        → value_at width (numbers_in values.entry) (columns.start + i) (rows.start + j) ≡ pos 0 }
+        → band_value width (numbers_in values.entry) (columns.start + i) (rows.start + j) ≡ pos 0 }
     ensures others { result ≡ false → ((i j : ℕ) → i < columns.length → j < rows.length
-        → value_at width (numbers_in values.entry) (columns.start + i) (rows.start + j) ≡ pos 0) → ⊥ }
+        → band_value width (numbers_in values.entry) (columns.start + i) (rows.start + j) ≡ pos 0) → ⊥ }
 {
     'rows: for j in 0..rows.length {
         if !is_zero_row(values, width, rows.start + j, columns.start, columns.length) {

@@ -5,8 +5,8 @@ use Rattle.std.specs.Prelude.{option_and_then, codes}
 use Rattle.std.specs.Str.Pattern.{LacksTextAt, FindsTextPrefix, StripsPrefix}
 use Rattle.std.proofs.lemmas.Bool.{cases_Bool, cond-true, cond-false, eqb-true}
 use Rattle.dirac_types.specs.declared.settings.Name.{Name}
-use Rattle.dirac_types.specs.Names.{text_of}
-use Rattle.dirac_command_line.specs.Options.{behind, number_read, path_in, some_path, value_in}
+use Rattle.dirac_types.specs.Names.{setting_text}
+use Rattle.dirac_command_line.specs.Options.{behind, number_in_digits, path_in, some_path, value_in}
 
 -- behind a front stands what follows it
 pub behind_whole : (front rest : List ℕ) → behind front (front ++ rest) ≡ Some rest
@@ -49,21 +49,21 @@ stripped front word (Some x) strips =
 
 -- a setting's value, by the three parts of its front
 pub value_by_parts : (name : Name) (word : List ℕ) (dashed named valued : Option (List ℕ))
-    → dashed ≡ behind (codes "--") word → named ≡ option_and_then (behind (text_of name)) dashed
+    → dashed ≡ behind (codes "--") word → named ≡ option_and_then (behind (setting_text name)) dashed
     → valued ≡ option_and_then (behind (codes "=")) named
-    → value_in name word ≡ option_and_then number_read valued
+    → value_in name word ≡ option_and_then number_in_digits valued
 unfolding value_in
 value_by_parts name word dashed named valued first second third =
-    ap (option_and_then number_read)
-    (behind_append (codes "--") (text_of name ++ codes "=") word
-    ∙ ap (option_and_then (behind (text_of name ++ codes "="))) (sym first)
+    ap (option_and_then number_in_digits)
+    (behind_append (codes "--") (setting_text name ++ codes "=") word
+    ∙ ap (option_and_then (behind (setting_text name ++ codes "="))) (sym first)
     ∙ later dashed
     ∙ ap (option_and_then (behind (codes "="))) (sym second)
     ∙ sym third) where
-      later : (dashed : Option (List ℕ)) → option_and_then (behind (text_of name ++ codes "=")) dashed
-          ≡ option_and_then (behind (codes "=")) (option_and_then (behind (text_of name)) dashed)
+      later : (dashed : Option (List ℕ)) → option_and_then (behind (setting_text name ++ codes "=")) dashed
+          ≡ option_and_then (behind (codes "=")) (option_and_then (behind (setting_text name)) dashed)
       later None = refl
-      later (Some text) = behind_append (text_of name) (codes "=") text
+      later (Some text) = behind_append (setting_text name) (codes "=") text
 
 -- a path, by what stands behind its front
 pub path_by_front : (word : List ℕ) (path : Option (List ℕ)) → path ≡ behind (codes "--recon=") word

@@ -3,7 +3,7 @@ use Rattle.std.specs.Prelude.{ℕ, Bool, if◌then◌else◌, List, [], ◌++◌
 use Rattle.dirac_common.specs.declared.faults.Fault.{Fault}
 use Rattle.dirac_types.specs.declared.settings.BadSetting.{BadSetting}
 use Rattle.dirac_types.specs.Causes.{name_of}
-use Rattle.dirac_types.specs.Names.{text_of as text_of_name}
+use Rattle.dirac_types.specs.Names.{setting_text}
 use Rattle.dirac_command_line.specs.declared.ended.Ended.{Ended}
 use Rattle.dirac_command_line.specs.declared.ended.Ended.TheVariants as ended
 
@@ -31,7 +31,7 @@ fault_text fault =
 
 -- a setting out of its range
 abbrev pub bad_setting_text : BadSetting → List ℕ
-bad_setting_text bad = codes "bad setting " ++ (text_of_name bad.name ++ (codes "=" ++ decimal bad.value))
+bad_setting_text bad = codes "bad setting " ++ (setting_text bad.name ++ (codes "=" ++ decimal bad.value))
 
 -- what is said of an answer
 abbrev pub text_of : Ended → List ℕ

@@ -8,7 +8,7 @@ use Rattle.std.specs.Str.{all_ascii_digits}
 use Rattle.dirac_types.specs.declared.settings.Name.{Name}
 use Rattle.dirac_types.specs.declared.settings.Name.TheVariants as name
 use Rattle.dirac_types.specs.declared.settings.Settings.{Settings}
-use Rattle.dirac_types.specs.Names.{text_of}
+use Rattle.dirac_types.specs.Names.{setting_text}
 use Rattle.dirac_types.specs.Settings.{of_base}
 use Rattle.dirac_command_line.specs.declared.options.OptionsOf.{OptionsOf}
 use Rattle.dirac_command_line.specs.declared.options.OptionsOf.TheVariants as options_of
@@ -37,13 +37,13 @@ abbrev pub is_digits : List ℕ → Bool
 is_digits text = all_ascii_digits text && (nat_le 1 (length text) && nat_le (length text) 10)
 
 -- the number that 1 to 10 ASCII digits spell, where it is at most 4,294,967,295
-unfoldable pub number_read : List ℕ → Option ℕ
-number_read text =
+unfoldable pub number_in_digits : List ℕ → Option ℕ
+number_in_digits text =
     if is_digits text && nat_le (number_after 0 text) 4294967295 then Some (number_after 0 text) else None
 
 -- the value that a word --name=value gives to the setting of this name
 unfoldable pub value_in : Name → List ℕ → Option ℕ
-value_in name word = option_and_then number_read (behind (codes "--" ++ (text_of name ++ codes "=")) word)
+value_in name word = option_and_then number_in_digits (behind (codes "--" ++ (setting_text name ++ codes "=")) word)
 
 -- a path that isn't empty
 abbrev pub some_path : List ℕ → Option (List ℕ)
@@ -55,7 +55,7 @@ path_in word = option_and_then some_path (behind (codes "--recon=") word)
 
 -- the number of the point that a word gives behind this front
 abbrev pub point_in : List ℕ → List ℕ → Option ℕ
-point_in front word = option_and_then number_read (behind front word)
+point_in front word = option_and_then number_in_digits (behind front word)
 
 -- the value that these words give to the setting of this name
 abbrev pub value_given : Name → List (List ℕ) → Option ℕ

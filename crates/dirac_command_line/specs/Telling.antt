@@ -1,7 +1,7 @@
 -- What is told of an answer.
 use Rattle.std.specs.Prelude.{◌⊎◌, ℕ, List, [], ◌∷◌, ◌++◌, codes, Option}
 use Rattle.std.specs.Io.KnownBytes.{Appends, Keeps}
-use Rattle.dirac_io.specs.Faults.{Rose, clipped}
+use Rattle.dirac_io.specs.Faults.{Rose, held_count}
 use Rattle.dirac_io.specs.Writing.{AppendsFront}
 
 -- a text and a newline; nothing, where there is no text
@@ -19,4 +19,4 @@ abbrev pub Tells : List ℕ → Texts → Texts → Type 0
 Tells line old new =
     Appends old.bytes new.bytes line
     ⊎ (Keeps old.bytes new.bytes
-    ⊎ (Rose (clipped old.faults) (clipped new.faults) × AppendsFront old.bytes new.bytes line))
+    ⊎ (Rose (held_count old.faults) (held_count new.faults) × AppendsFront old.bytes new.bytes line))

@@ -69,7 +69,7 @@ fn is_digits(text: &str) -> bool
 
 // The number that 1 to 10 ASCII digits spell, where it fits.
 fn number_of(text: &str) -> Option<u32>
-    ensures { result ≡ options.number_read text.now }
+    ensures { result ≡ options.number_in_digits text.now }
 {
     if is_digits(text) {
         text.parse::<u32>().ok()

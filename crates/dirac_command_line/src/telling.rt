@@ -1,5 +1,5 @@
 ghost use Rattle.std.specs.Prelude.{◌≡◌, ◌≤◌, IfOk, string_bytes};
-ghost use Rattle.dirac_io.specs.Faults.{clipped};
+ghost use Rattle.dirac_io.specs.Faults.{held_count};
 ghost use Rattle.dirac_command_line.specs.Ended.{text_of};
 ghost use Rattle.dirac_command_line.specs.Telling.{Tells, line_of as line_with};
 
@@ -15,7 +15,7 @@ pub fn tell<T: Write>(alloc: Global, texts: &mut WriterSink<T>, ended: &Ended)
     ensures told { Tells (line_with (text_of ended.now))
         (record { bytes = T.contents texts.old.writer; faults = texts.old.faults })
         (record { bytes = T.contents texts.new.writer; faults = texts.new.faults }) }
-    ensures count { clipped texts.old.faults ≤ clipped texts.new.faults }
+    ensures count { held_count texts.old.faults ≤ held_count texts.new.faults }
 {
     match line_of(alloc, ended) {
         Ok(line) => put_line(texts, line.as_bytes()),
@@ -39,7 +39,7 @@ fn put_line<T: Write>(texts: &mut WriterSink<T>, line: &[u8])
     ensures told { Tells line.now
         (record { bytes = T.contents texts.old.writer; faults = texts.old.faults })
         (record { bytes = T.contents texts.new.writer; faults = texts.new.faults }) }
-    ensures count { clipped texts.old.faults ≤ clipped texts.new.faults }
+    ensures count { held_count texts.old.faults ≤ held_count texts.new.faults }
 {
     let mut rest = line;
     'writing: while !rest.is_empty() {

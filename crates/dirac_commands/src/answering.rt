@@ -1,6 +1,6 @@
 ghost use Rattle.std.specs.Prelude.{◌≡◌, ◌==◌, ℕ, ◌≤◌, ◌↔◌, IsErr, IsSome, Option, Ok};
 ghost use Rattle.std.specs.Io.KnownBytes.{Keeps};
-ghost use Rattle.dirac_io.specs.Faults.{Rose, clipped};
+ghost use Rattle.dirac_io.specs.Faults.{Rose, held_count};
 ghost use Rattle.dirac_types.specs.declared.settings.BadSetting.{BadSetting};
 ghost use Rattle.dirac_types.specs.declared.settings.Settings.{Settings};
 ghost use Rattle.dirac_commands.specs.Answering.{Answers};
@@ -66,14 +66,15 @@ pub fn answer_beside<R: Threads + Sync, I: Read, O: Write, W: Write, T: Write>(
         → Keeps (W.contents side.old.writer) (W.contents side.new.writer) }
 
     // The status of a fault of the outside comes only where its count rose in this call.
-    ensures read { result ≡ status_of Ended.ReadFault → Rose (clipped input.old.faults) (clipped input.new.faults) }
+    ensures read { result ≡ status_of Ended.ReadFault
+        → Rose (held_count input.old.faults) (held_count input.new.faults) }
     ensures write { result ≡ status_of Ended.WriteFault
-        → Rose (clipped output.old.faults) (clipped output.new.faults) }
-    ensures side { result ≡ status_of Ended.SideFault → Rose (clipped side.old.faults) (clipped side.new.faults) }
-    ensures reads { clipped input.old.faults ≤ clipped input.new.faults }
-    ensures writes { clipped output.old.faults ≤ clipped output.new.faults }
-    ensures sides { clipped side.old.faults ≤ clipped side.new.faults }
-    ensures texts { clipped texts.old.faults ≤ clipped texts.new.faults }
+        → Rose (held_count output.old.faults) (held_count output.new.faults) }
+    ensures side { result ≡ status_of Ended.SideFault → Rose (held_count side.old.faults) (held_count side.new.faults) }
+    ensures reads { held_count input.old.faults ≤ held_count input.new.faults }
+    ensures writes { held_count output.old.faults ≤ held_count output.new.faults }
+    ensures sides { held_count side.old.faults ≤ held_count side.new.faults }
+    ensures texts { held_count texts.old.faults ≤ held_count texts.new.faults }
 {
     let ended = run_beside(rt, alloc, words, input, output, side);
     tell(alloc, texts, &ended);

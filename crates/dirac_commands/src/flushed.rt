@@ -1,6 +1,6 @@
 ghost use Rattle.std.specs.Prelude.{◌≡◌, ◌==◌, ℕ, ◌≤◌, true, ◌↔◌, Option, Some, Ok, Err};
 ghost use Rattle.std.specs.Io.KnownBytes.{Keeps};
-ghost use Rattle.dirac_io.specs.Faults.{Rose, clipped};
+ghost use Rattle.dirac_io.specs.Faults.{Rose, held_count};
 ghost use Rattle.dirac_types.specs.declared.settings.BadSetting.{BadSetting};
 ghost use Rattle.dirac_types.specs.declared.settings.Settings.{Settings};
 ghost use Rattle.dirac_stream_commands.specs.Cutting.{IfUnwrittenBy};
@@ -57,11 +57,11 @@ pub fn run_on<R: Threads + Sync, I: Read, O: Write, N: Sink>(
         → IfUnwrittenBy result (Keeps (O.contents output.old.writer) (O.contents output.new.writer)) }
 
     // A fault of the outside comes only where its count rose in this call.
-    ensures read { result ≡ Ended.ReadFault → Rose (clipped input.old.faults) (clipped input.new.faults) }
-    ensures write { result ≡ Ended.WriteFault → Rose (clipped output.old.faults) (clipped output.new.faults) }
+    ensures read { result ≡ Ended.ReadFault → Rose (held_count input.old.faults) (held_count input.new.faults) }
+    ensures write { result ≡ Ended.WriteFault → Rose (held_count output.old.faults) (held_count output.new.faults) }
     ensures side { result ≡ Ended.SideFault → Rose (N.faults side.old) (N.faults side.new) }
-    ensures reads { clipped input.old.faults ≤ clipped input.new.faults }
-    ensures writes { clipped output.old.faults ≤ clipped output.new.faults }
+    ensures reads { held_count input.old.faults ≤ held_count input.new.faults }
+    ensures writes { held_count output.old.faults ≤ held_count output.new.faults }
     ensures sides { N.faults side.old ≤ N.faults side.new }
 {
     let before = output.fault_count();
@@ -117,12 +117,12 @@ pub fn run_beside<R: Threads + Sync, I: Read, O: Write, W: Write>(
     ensures join_untouched { command_read words.now ≡ Ok Command.Join
         → IfUnwrittenBy result (Keeps (O.contents output.old.writer) (O.contents output.new.writer)) }
 
-    ensures read { result ≡ Ended.ReadFault → Rose (clipped input.old.faults) (clipped input.new.faults) }
-    ensures write { result ≡ Ended.WriteFault → Rose (clipped output.old.faults) (clipped output.new.faults) }
-    ensures side { result ≡ Ended.SideFault → Rose (clipped side.old.faults) (clipped side.new.faults) }
-    ensures reads { clipped input.old.faults ≤ clipped input.new.faults }
-    ensures writes { clipped output.old.faults ≤ clipped output.new.faults }
-    ensures sides { clipped side.old.faults ≤ clipped side.new.faults }
+    ensures read { result ≡ Ended.ReadFault → Rose (held_count input.old.faults) (held_count input.new.faults) }
+    ensures write { result ≡ Ended.WriteFault → Rose (held_count output.old.faults) (held_count output.new.faults) }
+    ensures side { result ≡ Ended.SideFault → Rose (held_count side.old.faults) (held_count side.new.faults) }
+    ensures reads { held_count input.old.faults ≤ held_count input.new.faults }
+    ensures writes { held_count output.old.faults ≤ held_count output.new.faults }
+    ensures sides { held_count side.old.faults ≤ held_count side.new.faults }
 {
     let before = side.fault_count();
     let ended = run_on(rt, alloc, words, input, output, side);

@@ -8,11 +8,11 @@ use Rattle.dirac_refs.specs.Delivery.{least_among}
 use Rattle.dirac_content.specs.Leaving.{leaving}
 use Rattle.dirac_content.specs.Raw.{raw, raws}
 use Rattle.dirac_content.specs.Shown.{accepted}
-use Rattle.dirac_content.specs.StreamState.{StreamState, begun, unit_step}
+use Rattle.dirac_content.specs.StreamState.{StreamState, stream_begun, unit_step}
 
 -- a picture waits, and the end unit of its sequence follows
 waits : Picture → StreamState
-waits p = record begun { waiting = record { key = pos 0; picture = p } ∷ [] }
+waits p = record stream_begun { waiting = record { key = pos 0; picture = p } ∷ [] }
 
 end_unit : UnitText
 end_unit = record { info = record { code = 16; next = 0; previous = 13 }; payload = [] }
@@ -32,6 +32,6 @@ stray = record { info = record { code = 12; next = 0; previous = 13 }; payload =
 
 -- so a decoder that reads on behind it and answers that a read failed is refused: the fault of that unit was to be
 -- answered
-reader_on_refused : accepted begun (stray ∷ []) ≡ stray ∷ [] → ⊥
+reader_on_refused : accepted stream_begun (stray ∷ []) ≡ stray ∷ [] → ⊥
 unfolding accepted unit_step stray
 reader_on_refused e = let both : [] ≡ stray ∷ [] = e in cc

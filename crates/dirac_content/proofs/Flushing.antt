@@ -16,7 +16,7 @@ use Rattle.dirac_picture.specs.declared.coded.CodedPicture.{CodedPicture}
 use Rattle.dirac_picture.specs.Grammar.{picture_read}
 use Rattle.dirac_content.specs.declared.opened.Opened.{Opened}
 use Rattle.dirac_content.specs.Content.{rebuilt}
-use Rattle.dirac_content.specs.StreamState.{StreamState, StreamStep, ended, header_step, made, unit_step, opening, picture_step, shows, staying, is_same}
+use Rattle.dirac_content.specs.StreamState.{StreamState, StreamStep, ended, header_step, shown_or_refused, unit_step, opening, picture_step, shows, staying, is_same}
 use Rattle.dirac_content.specs.Sequences.{AreOfOneSequence, EachIsFlushed, LastIsFlushed, ShowsBehind, flushed_behind, pushed, pushed_by, pushed_in, pushed_of, pushed_on}
 use Rattle.dirac_content.specs.Shown.{accepted, accepted_on, follows, outcome}
 
@@ -39,7 +39,7 @@ pushed_append waiting (x ∷ xs) ys =
     ∙ ap (λ (g : List Picture). let l : Leaving = record { waiting = (pushed_all (pushed_all now.waiting xs).waiting ys).waiting; gone = g } in l) (gone ∙ joined)
 
 -- a picture that was read
-made_leaves : (state : StreamState) (o : Opened) (r : Result CodedPicture Refusal) (m : StreamStep) → made state o r ≡ Ok m → pushed_all state.waiting (pushed_of state o r) ≡ left_by m
+made_leaves : (state : StreamState) (o : Opened) (r : Result CodedPicture Refusal) (m : StreamStep) → shown_or_refused state o r ≡ Ok m → pushed_all state.waiting (pushed_of state o r) ≡ left_by m
 made_leaves state o (Err refusal) m is = absurd cc
 made_leaves state o (Ok coded) m is =
     let s = shows state coded (rebuilt o.sequence state.list coded) in

@@ -6,10 +6,10 @@ use Rattle.dirac_common.specs.declared.faults.Refusal.{Refusal}
 use Rattle.dirac_common.specs.declared.picture.Picture.{Picture}
 use Rattle.dirac_io.specs.Writing.{AppendsFront}
 use Rattle.dirac_units.specs.declared.unit_place.UnitPlace.{UnitPlace}
-use Rattle.dirac_units.specs.Cut.{IsCut, UnitText, start}
+use Rattle.dirac_units.specs.Cut.{IsCut, UnitText, first_unit_place}
 use Rattle.dirac_content.specs.Raw.{raws}
 use Rattle.dirac_content.specs.Shown.{IsShown, Outcome, accepted, outcome}
-use Rattle.dirac_content.specs.StreamState.{StreamState, StreamStep, begun, unit_step}
+use Rattle.dirac_content.specs.StreamState.{StreamState, StreamStep, stream_begun, unit_step}
 
 -- the pictures that leave at a unit, and then those that leave behind it; none at one that is refused
 abbrev pub leaving_on : (StreamState → List Picture) → Result StreamStep Refusal → List Picture
@@ -31,9 +31,9 @@ pub record IsBrokenOff (bytes : List ℕ) (held' taken taken' : Option (List ℕ
   pub holds : held' ≡ Some rest
   pub units : List UnitText
   pub end : Option Fault
-  pub cut : IsCut start read units end
-  pub accepts : accepted begun units ≡ units
-  pub delivered : Appends taken taken' (raws (leaving begun units))
+  pub cut : IsCut first_unit_place read units end
+  pub accepts : accepted stream_begun units ≡ units
+  pub delivered : Appends taken taken' (raws (leaving stream_begun units))
 
 -- of these bytes some were read and just the others are held, and a sink took a front of the pictures that those read
 -- show by themselves

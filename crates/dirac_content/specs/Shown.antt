@@ -4,10 +4,10 @@ use Rattle.dirac_common.specs.declared.faults.Fault.{Fault}
 use Rattle.dirac_common.specs.declared.faults.Refusal.{Refusal}
 use Rattle.dirac_common.specs.declared.picture.Picture.{Picture}
 use Rattle.dirac_units.specs.declared.unit_place.UnitPlace.{UnitPlace}
-use Rattle.dirac_units.specs.Cut.{UnitText, IsCut, start, after, fault_at}
+use Rattle.dirac_units.specs.Cut.{UnitText, IsCut, first_unit_place, after, fault_at}
 use Rattle.dirac_refs.specs.Delivery.{flushed}
 use Rattle.dirac_content.specs.declared.tally.Tally.{Tally}
-use Rattle.dirac_content.specs.StreamState.{StreamState, StreamStep, begun, unit_step}
+use Rattle.dirac_content.specs.StreamState.{StreamState, StreamStep, stream_begun, unit_step}
 
 -- the pictures shown, in order of delivery, the greatest length of a reference list, and the fault that ends the stream
 pub record Outcome : Type 0 where
@@ -55,7 +55,7 @@ pub record Shows (state : StreamState) (unit_place : UnitPlace) (bytes : List �
 
 -- what a stream shows
 abbrev pub IsShown : List ℕ → Outcome → Type 0
-IsShown bytes o = Shows begun start bytes o
+IsShown bytes o = Shows stream_begun first_unit_place bytes o
 
 -- how many pictures are shown, and the greatest length of a reference list
 abbrev pub tally_of : Outcome → Tally

@@ -27,8 +27,8 @@ pub record StreamState : Type 0 where
   pub most : ℕ
 
 -- before the first unit
-abbrev pub begun : StreamState
-begun = record { opened = None; first = None; list = []; waiting = []; most = 0 }
+abbrev pub stream_begun : StreamState
+stream_begun = record { opened = None; first = None; list = []; waiting = []; most = 0 }
 
 -- the course behind a unit, and the pictures that it made leave, in order
 pub record StreamStep : Type 0 where
@@ -82,14 +82,14 @@ shows state coded p =
     }
 
 -- a picture was read, or refused
-abbrev pub made : StreamState → Opened → Result CodedPicture Refusal → Result StreamStep Refusal
-made state o (Ok coded) = Ok (shows state coded (rebuilt o.sequence state.list coded))
-made state o (Err refusal) = Err (in_unit refusal)
+abbrev pub shown_or_refused : StreamState → Opened → Result CodedPicture Refusal → Result StreamStep Refusal
+shown_or_refused state o (Ok coded) = Ok (shows state coded (rebuilt o.sequence state.list coded))
+shown_or_refused state o (Err refusal) = Err (in_unit refusal)
 
 -- a picture of the open sequence
 abbrev pub picture_step : StreamState → Option Opened → ℕ → List ℕ → Result StreamStep Refusal
 picture_step state None code payload = Err (record { at = 0; cause = NoSequence })
-picture_step state (Some o) code payload = made state o (picture_read code o.sequence state.list payload)
+picture_step state (Some o) code payload = shown_or_refused state o (picture_read code o.sequence state.list payload)
 
 -- an end unit closes the sequence, and all that wait leave
 abbrev pub ended : StreamState → StreamStep

@@ -1,5 +1,5 @@
 ghost use Rattle.std.specs.Prelude.{◌≡◌, ◌≤◌};
-ghost use Rattle.dirac_costs.specs.Bits.{bits_of, bits_of_vector};
+ghost use Rattle.dirac_costs.specs.Bits.{bits_to_spell, bits_of_vector};
 
 use dirac_common::Vector;
 
@@ -7,7 +7,7 @@ use dirac_common::Vector;
 /// plus 1 behind the leading one a follow bit and the digit, a last follow bit, and a sign where it isn't 0.
 #[inline(always)]
 pub fn signed_bits(value: i32) -> u32
-    ensures value { result ≡ bits_of value }
+    ensures value { result ≡ bits_to_spell value }
     ensures at_most_130 { result ≤ 130 }
 {
     let magnitude = value.unsigned_abs();

@@ -12,7 +12,7 @@ use Rattle.dirac_costs.proofs.Least.{is_first_least}
 use Rattle.dirac_costs.proofs.Totals.{mean_over_sample}
 use Rattle.dirac_decide.specs.Deciding.{Deciding, IsDeciding, View}
 use Rattle.dirac_decide.specs.Choosing.{cheaper, motion_mode}
-use Rattle.dirac_decide.specs.Modes.{HasSamples, both_mode, chroma_window, choice_of, dc_mode, first_mode, second_mode}
+use Rattle.dirac_decide.specs.Modes.{HasDcSamples, both_mode, chroma_window, choice_of, dc_mode, first_mode, second_mode}
 use Rattle.dirac_decide.specs.Predictors.{IsChromaSource}
 use Rattle.dirac_decide.specs.Splits.{best_block, best_split, block_by_rows, decided, split_cost, unit_in}
 use Rattle.dirac_decide.specs.Units.{unit_window}
@@ -23,13 +23,13 @@ use Rattle.dirac_decide.specs.declared.prediction_unit.PredictionUnit.{Predictio
 zero_fits : IsSample (pos 0)
 zero_fits = record { least = omega (arith, ints); most = omega (arith, ints) }
 
-cheaper_has : (a b : Choice) → HasSamples a.block → HasSamples b.block → HasSamples (cheaper a b).block
+cheaper_has : (a b : Choice) → HasDcSamples a.block → HasDcSamples b.block → HasDcSamples (cheaper a b).block
 cheaper_has a b p q = elim (cases_Bool (nat_lt b.cost a.cost)) [
   | inl less ↦ rw less q
   | inr more ↦ rw more p
 ]
 
-motion_has : (d : Deciding) (u : PredictionUnit) (o : Option View) → HasSamples (motion_mode d u o).block
+motion_has : (d : Deciding) (u : PredictionUnit) (o : Option View) → HasDcSamples (motion_mode d u o).block
 motion_has d u None = record { y = zero_fits; u = zero_fits; v = zero_fits }
 motion_has d u (Some r) =
     cheaper_has (cheaper (first_mode d u) (second_mode d r u)) (both_mode d r u)
@@ -49,7 +49,7 @@ unit_has_chroma d u h some = record {
   rows = omega (arith, mul-le 1 2 u.size d.grid.ybsep some h.rows.0);
 }
 
-pub dc_has : (d : Deciding) (u : PredictionUnit) → IsDeciding d → 1 ≤ u.size → HasSamples (dc_mode d u).block
+pub dc_has : (d : Deciding) (u : PredictionUnit) → IsDeciding d → 1 ≤ u.size → HasDcSamples (dc_mode d u).block
 dc_has d u h some =
     let columns : 2 ≤ u.size * d.grid.xbsep = (unit_has_chroma d u h some).columns in
     let rows : 2 ≤ u.size * d.grid.ybsep = (unit_has_chroma d u h some).rows in
@@ -63,10 +63,10 @@ dc_has d u h some =
       v = mean_over_sample d.v (chroma_window d (unit_window d.grid u)) h.v across down;
     }
 
-pub choice_has : (d : Deciding) (u : PredictionUnit) → IsDeciding d → 1 ≤ u.size → HasSamples (choice_of d u).block
+pub choice_has : (d : Deciding) (u : PredictionUnit) → IsDeciding d → 1 ≤ u.size → HasDcSamples (choice_of d u).block
 unfolding choice_of
 choice_has d u h some =
-    subst (λ (c : Choice). HasSamples c.block) (modes_are d u d.second)
+    subst (λ (c : Choice). HasDcSamples c.block) (modes_are d u d.second)
     (cheaper_has (motion_mode d u d.second) (dc_mode d u) (motion_has d u d.second) (dc_has d u h some))
 
 pub some_size : (split : ℕ) → split ≤ 2 → 1 ≤ unit_size split
@@ -79,12 +79,12 @@ pub low_split : (d : Deciding) (sx sy : ℕ) → best_split d sx sy ≤ 2
 unfolding best_split
 low_split d sx sy = (is_first_least (split_cost d sx sy) 2).among
 
-block_has : (d : Deciding) (sx sy i j : ℕ) → IsDeciding d → HasSamples (best_block d sx sy i j)
+block_has : (d : Deciding) (sx sy i j : ℕ) → IsDeciding d → HasDcSamples (best_block d sx sy i j)
 block_has d sx sy i j h =
     let split = best_split d sx sy in
     choice_has d (unit_in split sx sy (unit_of split i j)) h (some_size split (low_split d sx sy))
 
-pub blocks_have : (d : Deciding) → IsDeciding d → All HasSamples (decided d).blocks
+pub blocks_have : (d : Deciding) → IsDeciding d → All HasDcSamples (decided d).blocks
 unfolding decided
 blocks_have d h k dflt l =
     let f : ℕ → Block = block_by_rows d in

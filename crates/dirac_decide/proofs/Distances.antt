@@ -7,14 +7,14 @@ use Rattle.dirac_costs.specs.Sums.{sum_below}
 use Rattle.dirac_costs.proofs.Sums.{sum_same}
 use Rattle.dirac_costs.proofs.Tiles.{tiles}
 use Rattle.dirac_decide.specs.Deciding.{Deciding}
-use Rattle.dirac_decide.specs.Predictors.{RowHolds, predicted, unit_cost, window_cost}
-use Rattle.dirac_decide.specs.Units.{distortion, unit_window}
+use Rattle.dirac_decide.specs.Predictors.{RowHolds, predictor_samples, unit_cost, predictor_cost}
+use Rattle.dirac_decide.specs.Units.{unit_distortion, unit_window}
 use Rattle.dirac_decide.specs.declared.predictor.Predictor.{Predictor}
 use Rattle.dirac_decide.specs.declared.prediction_unit.PredictionUnit.{PredictionUnit}
 
 -- a unit's distortion is that of its window
-pub distortion_is : (d : Deciding) (u : PredictionUnit) (f : ℕ → ℕ → ℤ) → distortion d u f ≡ over (unit_window d.grid u) (apart (sample_at d.y) f)
-unfolding distortion
+pub distortion_is : (d : Deciding) (u : PredictionUnit) (f : ℕ → ℕ → ℤ) → unit_distortion d u f ≡ over (unit_window d.grid u) (apart (sample_at d.y) f)
+unfolding unit_distortion
 distortion_is d u f = tiles (apart (sample_at d.y) f) u.i u.j d.grid.xbsep d.grid.ybsep u.size
 
 -- the differences of a row that holds a predictor's samples
@@ -28,5 +28,5 @@ row_apart t g x y n row len same =
     place k = omega arith
 
 -- what bits and differences cost together, in the order of the definition
-pub cost_is : (d : Deciding) (u : PredictionUnit) (p : Predictor) (bits : ℕ) → window_cost d.y d.precision p (unit_window d.grid u) bits ≡ unit_cost d u p bits
-cost_is d u p bits = omega (arith, distortion_is d u (predicted d.precision p))
+pub cost_is : (d : Deciding) (u : PredictionUnit) (p : Predictor) (bits : ℕ) → predictor_cost d.y d.precision p (unit_window d.grid u) bits ≡ unit_cost d u p bits
+cost_is d u p bits = omega (arith, distortion_is d u (predictor_samples d.precision p))

@@ -1,24 +1,23 @@
 -- The best of the candidates that keep inside.
-use Rattle.std.proofs.Common.{◌≡◌, ℕ, ℤ, unsigned_abs, zero, suc, ◌+◌, ◌*◌, ◌<◌, ◌≤◌, ◌^◌, ◌==◌, Bool, true, false, ◌&&◌, cond, if◌then◌else◌, nat_lt, List, [], ◌∷◌, ◌++◌, length, map, Option, Some, None, refl, ap, sym, subst, ◌∙◌, arith, inl, inr}
-use Rattle.std.specs.List.{All, filter, range_with_len}
+use Rattle.std.proofs.Common.{◌≡◌, ℕ, ℤ, unsigned_abs, zero, suc, ◌+◌, ◌<◌, ◌≤◌, ◌^◌, ◌==◌, Bool, true, false, ◌&&◌, cond, if◌then◌else◌, nat_lt, List, [], ◌∷◌, ◌++◌, length, Option, refl, ap, sym, subst, ◌∙◌, arith, inl, inr}
+use Rattle.std.specs.List.{All}
 use Rattle.std.proofs.lemmas.Bool.{cases_Bool, eqb-true, lt-ltb, le-ltb}
 use Rattle.std.proofs.lemmas.Int.{ints}
 use Rattle.std.proofs.lemmas.List.{append-nil}
-use Rattle.std.proofs.lemmas.List.Elements.{All-filter}
 use Rattle.std.proofs.lemmas.List.FromFn.{filter_of_map_range_with_len_more}
 use Rattle.dirac_common.specs.declared.formats.Vector.{Vector}
 use Rattle.dirac_vectors.specs.Neighbours.{IsShort}
 use Rattle.dirac_vectors.specs.Predictions.{IsShortVector}
-use Rattle.dirac_costs.specs.Least.{IsToldBelow, first_least}
+use Rattle.dirac_costs.specs.Least.{first_least}
 use Rattle.dirac_costs.proofs.Least.{first_least_min, first_least_more}
-use Rattle.dirac_inside.specs.Inside.{all_below, times}
+use Rattle.dirac_inside.specs.Inside.{all_below, vector_times}
 use Rattle.dirac_inside.specs.Ranges.{AreBlocks, IsBounded, IsNear, is_in}
 use Rattle.dirac_inside.specs.declared.range.VectorRange.{VectorRange}
 use Rattle.dirac_inside.proofs.Zeros.{times_one}
 use Rattle.dirac_search.specs.Candidates.{no_motion}
 use Rattle.dirac_decide.specs.Deciding.{Deciding, IsDeciding, View}
 use Rattle.dirac_decide.specs.Insides.{HasTheUnitsInside, IsBestAmong, IsBestWhereSome, IsCosted}
-use Rattle.dirac_decide.specs.Units.{best_inside, best_place, best_vector, blocks_of, candidate, first_or_none, inside_to, unit_keeps, vector_cost}
+use Rattle.dirac_decide.specs.Units.{best_inside, best_place, best_vector, decided_blocks, candidate, first_or_none, inside_to, unit_keeps, vector_cost}
 use Rattle.dirac_decide.specs.declared.best.Best.{Best}
 use Rattle.dirac_decide.specs.declared.prediction_unit.PredictionUnit.{PredictionUnit}
 
@@ -27,12 +26,12 @@ pub all_more : (is : ℕ → Bool) (k : ℕ) → all_below is (k + 1) ≡ (all_b
 all_more is k = ap (all_below is) (let next : k + 1 ≡ suc k = omega arith in next)
 
 -- one vector more behind some
-more_is : (cost : Vector → ℕ) (vs : List Vector) (v : Vector) → 1 ≤ length vs
+pub more_is : (cost : Vector → ℕ) (vs : List Vector) (v : Vector) → 1 ≤ length vs
     → first_or_none cost (vs ++ v ∷ []) ≡ (if nat_lt (cost v) (cost (first_or_none cost vs)) then v else first_or_none cost vs)
 more_is cost [] v some = absurd (omega arith)
 more_is cost (w ∷ ws) v some = first_least_more cost w ws (v ∷ [])
 
-longer : (vs : List Vector) (v : Vector) → 1 ≤ length (vs ++ v ∷ [])
+pub longer : (vs : List Vector) (v : Vector) → 1 ≤ length (vs ++ v ∷ [])
 longer [] v = omega arith
 longer (w ∷ ws) v = omega arith
 
@@ -110,7 +109,7 @@ first_least_of cost (v ∷ vs) zero e l = (first_least_min cost v vs).0
 first_least_of cost (v ∷ vs) (suc k) e l = (first_least_min cost v vs).1 k e (omega arith)
 
 -- the blocks of what can be decided from
-pub are_blocks : (d : Deciding) → IsDeciding d → AreBlocks (blocks_of d)
+pub are_blocks : (d : Deciding) → IsDeciding d → AreBlocks (decided_blocks d)
 are_blocks d h = record { columns = h.columns.1; rows = h.rows.1; across_ratio = h.across_ratio; down_ratio = h.down_ratio }
 
 -- vectors of 16 bits can be asked
@@ -123,7 +122,7 @@ pub short_bounded : (v : Vector) → IsShortVector v → IsBounded v
 short_bounded v is = let near = short_near v is in record { across = omega (arith, near.across); down = omega (arith, near.down) }
 
 -- the answer of the range of a unit
-pub unit_answer : (d : Deciding) (u : PredictionUnit) (range : VectorRange) (v w : Vector) (answer : Bool) → HasTheUnitsInside d u range → IsShortVector v → answer ≡ is_in range (times 1 v) → v ≡ w
+pub unit_answer : (d : Deciding) (u : PredictionUnit) (range : VectorRange) (v w : Vector) (answer : Bool) → HasTheUnitsInside d u range → IsShortVector v → answer ≡ is_in range (vector_times 1 v) → v ≡ w
     → unit_keeps d u w ≡ answer
 unit_answer d u range v w answer is short e same =
     ap (unit_keeps d u) (sym same) ∙ sym (is v (short_bounded v short)) ∙ ap (is_in range) (sym (times_one v)) ∙ sym e

@@ -11,13 +11,13 @@ use Rattle.dirac_common.specs.declared.formats.Vector.{Vector}
 use Rattle.dirac_vectors.specs.Neighbours.{IsShort}
 use Rattle.dirac_vectors.specs.Predictions.{IsShortVector}
 use Rattle.dirac_upconvert.specs.HalfSamples.{IsSample}
-use Rattle.dirac_block_table.specs.Tables.{grey, IsBlock, IsBlockTable, block_in, first_of, no_vector, split_at, unit_of}
-use Rattle.dirac_search.specs.Candidates.{no_motion, vector_at}
+use Rattle.dirac_block_table.specs.Tables.{grey, IsBlock, IsBlockTable, block_in, first_in_unit, no_vector, split_at, unit_of}
+use Rattle.dirac_search.specs.Candidates.{no_motion, field_vector}
 use Rattle.dirac_decide.specs.Choosing.{cheaper, motion_mode}
 use Rattle.dirac_decide.specs.Deciding.{Deciding, IsDeciding, View}
-use Rattle.dirac_decide.specs.Laws.{IsLawful}
-use Rattle.dirac_decide.specs.Modes.{HasSamples, both_mode, choice_of, dc_mode, first_mode, from_both, from_dc, from_first, from_second, refs_of, second_mode}
-use Rattle.dirac_decide.specs.Splits.{best_block, best_split, block_by_rows, decided, split_of, unit_in}
+use Rattle.dirac_decide.specs.Laws.{IsLawfulDecision}
+use Rattle.dirac_decide.specs.Modes.{HasDcSamples, both_mode, choice_of, dc_mode, first_mode, from_both, from_dc, from_first, from_second, count_of_references, second_mode}
+use Rattle.dirac_decide.specs.Splits.{best_block, best_split, block_by_rows, decided, best_split_by_rows, unit_in}
 use Rattle.dirac_decide.specs.Units.{best_place, best_vector, candidate, inside_to, unit_keeps, vector_cost}
 use Rattle.dirac_decide.specs.declared.choice.Choice.{Choice}
 use Rattle.dirac_decide.specs.declared.prediction_unit.PredictionUnit.{PredictionUnit}
@@ -75,7 +75,7 @@ both_block v w is also = record {
   no_dc = λ e. (refl, refl, refl);
 }
 
-pub dc_block_of : (refs : ℕ) (y u v : ℤ) → HasSamples (from_dc y u v) → IsBlock refs (from_dc y u v)
+pub dc_block_of : (refs : ℕ) (y u v : ℤ) → HasDcSamples (from_dc y u v) → IsBlock refs (from_dc y u v)
 dc_block_of refs y u v is = record {
   second = λ e. refl;
   v1 = nowhere;
@@ -89,7 +89,7 @@ dc_block_of refs y u v is = record {
 }
 
 -- a vector of a reference, or that of no motion
-vector_short : (r : View) (i j : ℕ) → All IsShortVector r.field.vectors → IsShortVector (vector_at r.field i j)
+vector_short : (r : View) (i j : ℕ) → All IsShortVector r.field.vectors → IsShortVector (field_vector r.field i j)
 vector_short r i j all = elim (cases_lt (j * (4 * r.field.across) + i) (length r.field.vectors)) [
   | inl inside ↦ all (j * (4 * r.field.across) + i) no_motion inside
   | inr past ↦ rw (get_or_past r.field.vectors (j * (4 * r.field.across) + i) no_motion past) nowhere
@@ -116,7 +116,7 @@ cheaper_block refs a b p q = elim (cases_Bool (nat_lt b.cost a.cost)) [
 ]
 
 motion_block : (d : Deciding) (u : PredictionUnit) (o : Option View) → All IsShortVector d.first.field.vectors
-    → ((r : View) → o ≡ Some r → All IsShortVector r.field.vectors) → IsBlock (refs_of o) (motion_mode d u o).block
+    → ((r : View) → o ≡ Some r → All IsShortVector r.field.vectors) → IsBlock (count_of_references o) (motion_mode d u o).block
 motion_block d u None first second = first_block 1 (best_vector d d.first u) (best_short d d.first u first)
 motion_block d u (Some r) first second =
     let v = best_short d d.first u first in
@@ -125,22 +125,22 @@ motion_block d u (Some r) first second =
     (cheaper_block 2 (first_mode d u) (second_mode d r u) (first_block 2 (best_vector d d.first u) v) (second_block (best_vector d r u) w))
     (both_block (best_vector d d.first u) (best_vector d r u) v w)
 
-choice_block : (d : Deciding) (u : PredictionUnit) → IsDeciding d → 1 ≤ u.size → IsBlock (refs_of d.second) (choice_of d u).block
+choice_block : (d : Deciding) (u : PredictionUnit) → IsDeciding d → 1 ≤ u.size → IsBlock (count_of_references d.second) (choice_of d u).block
 unfolding choice_of
 choice_block d u h some =
-    subst (λ (c : Choice). IsBlock (refs_of d.second) c.block) (modes_are d u d.second)
-    (cheaper_block (refs_of d.second) (motion_mode d u d.second) (dc_mode d u)
+    subst (λ (c : Choice). IsBlock (count_of_references d.second) c.block) (modes_are d u d.second)
+    (cheaper_block (count_of_references d.second) (motion_mode d u d.second) (dc_mode d u)
     (motion_block d u d.second h.first.of_16_bits (λ r e. (h.second r e).of_16_bits))
-    (dc_block_of (refs_of d.second) _ _ _ (dc_has d u h some)))
+    (dc_block_of (count_of_references d.second) _ _ _ (dc_has d u h some)))
 
-best_is_block : (d : Deciding) (sx sy i j : ℕ) → IsDeciding d → IsBlock (refs_of d.second) (best_block d sx sy i j)
+best_is_block : (d : Deciding) (sx sy i j : ℕ) → IsDeciding d → IsBlock (count_of_references d.second) (best_block d sx sy i j)
 best_is_block d sx sy i j h =
     let split = best_split d sx sy in
     choice_block d (unit_in split sx sy (unit_of split i j)) h (some_size split (low_split d sx sy))
 
 -- ---- places
 
-two_refs : (o : Option View) → (1 ≤ refs_of o) × (refs_of o ≤ 2)
+two_refs : (o : Option View) → (1 ≤ count_of_references o) × (count_of_references o ≤ 2)
 two_refs None = (omega arith, omega arith)
 two_refs (Some r) = (omega arith, omega arith)
 
@@ -148,7 +148,7 @@ split_is : (d : Deciding) (sx sy : ℕ) → sx < d.across → sy < d.down → sp
 unfolding decided
 split_is d sx sy a b =
     let inside : sy * d.across + sx < d.down * d.across = omega (arith, row_fits sy d.across d.down d.across b (omega arith)) in
-    get_or-map-range_with_len (split_of d) 0 (d.down * d.across) (sy * d.across + sx) (sy * d.across + sx) 0 inside (omega arith)
+    get_or-map-range_with_len (best_split_by_rows d) 0 (d.down * d.across) (sy * d.across + sx) (sy * d.across + sx) 0 inside (omega arith)
     ∙ ap (λ x. best_split d x ((sy * d.across + sx) / d.across)) (mod-mul-add sy d.across sx a)
     ∙ ap (best_split d sx) (div-mul-add sy d.across sx a)
 
@@ -174,37 +174,37 @@ block_is d sx sy i j a b l m =
     ∙ ap (λ p. best_block d sx sy p (y % 4)) column.1 ∙ ap (best_block d sx sy i) row.1
 
 -- a block has its unit's number
-first_below : (split i : ℕ) → split ≤ 2 → i < 4 → first_of split i < 4
+first_below : (split i : ℕ) → split ≤ 2 → i < 4 → first_in_unit split i < 4
 first_below zero i l m = omega arith
 first_below (suc zero) i l m = omega arith
 first_below (suc (suc zero)) i l m = omega arith
 first_below (suc (suc (suc split))) i l m = absurd (omega arith)
 
-same_unit : (split i j : ℕ) → split ≤ 2 → i < 4 → j < 4 → unit_of split (first_of split i) (first_of split j) ≡ unit_of split i j
+same_unit : (split i j : ℕ) → split ≤ 2 → i < 4 → j < 4 → unit_of split (first_in_unit split i) (first_in_unit split j) ≡ unit_of split i j
 same_unit zero i j l m n = omega arith
 same_unit (suc zero) i j l m n = omega arith
 same_unit (suc (suc zero)) i j l m n = omega arith
 same_unit (suc (suc (suc split))) i j l m n = absurd (omega arith)
 
 units_same : (d : Deciding) (sx sy i j : ℕ) → sx < d.across → sy < d.down → i < 4 → j < 4
-    → block_in (decided d) sx sy i j ≡ block_in (decided d) sx sy (first_of (split_at (decided d) sx sy) i) (first_of (split_at (decided d) sx sy) j)
+    → block_in (decided d) sx sy i j ≡ block_in (decided d) sx sy (first_in_unit (split_at (decided d) sx sy) i) (first_in_unit (split_at (decided d) sx sy) j)
 units_same d sx sy i j a b l m =
     let s = best_split d sx sy in
     let low = low_split d sx sy in
     block_is d sx sy i j a b l m
     ∙ ap (λ u. (choice_of d (unit_in s sx sy u)).block) (sym (same_unit s i j low l m))
-    ∙ sym (block_is d sx sy (first_of s i) (first_of s j) a b (first_below s i low l) (first_below s j low m))
-    ∙ ap (λ t. block_in (decided d) sx sy (first_of t i) (first_of t j)) (sym (split_is d sx sy a b))
+    ∙ sym (block_is d sx sy (first_in_unit s i) (first_in_unit s j) a b (first_below s i low l) (first_below s j low m))
+    ∙ ap (λ t. block_in (decided d) sx sy (first_in_unit t i) (first_in_unit t j)) (sym (split_is d sx sy a b))
 
 -- ---- the table
 
 splits_low : (d : Deciding) → All (λ s. s ≤ 2) (decided d).splits
 unfolding decided
 splits_low d k dflt l =
-    let inside : k < d.down * d.across = omega (arith, l, length-map-range_with_len (split_of d) 0 (d.down * d.across)) in
-    rw (get_or-map-range_with_len (split_of d) 0 (d.down * d.across) k k dflt inside (omega arith)) (low_split d (k % d.across) (k / d.across))
+    let inside : k < d.down * d.across = omega (arith, l, length-map-range_with_len (best_split_by_rows d) 0 (d.down * d.across)) in
+    rw (get_or-map-range_with_len (best_split_by_rows d) 0 (d.down * d.across) k k dflt inside (omega arith)) (low_split d (k % d.across) (k / d.across))
 
-blocks_lawful : (d : Deciding) → IsDeciding d → All (IsBlock (refs_of d.second)) (decided d).blocks
+blocks_lawful : (d : Deciding) → IsDeciding d → All (IsBlock (count_of_references d.second)) (decided d).blocks
 unfolding decided
 blocks_lawful d h k dflt l =
     let n = 4 * d.down * (4 * d.across) in
@@ -222,12 +222,12 @@ table_lawful d h across down = record {
     some_refs = (two_refs d.second).0;
     most_refs = (two_refs d.second).1;
   };
-  splits_len = length-map-range_with_len (split_of d) 0 (d.down * d.across);
+  splits_len = length-map-range_with_len (best_split_by_rows d) 0 (d.down * d.across);
   blocks_len = length-map-range_with_len (block_by_rows d) 0 (4 * d.down * (4 * d.across));
   splits = splits_low d;
   blocks = blocks_lawful d h;
   units = λ sx sy i j a b l m. units_same d sx sy i j a b l m;
 }
 
-pub decided_lawful : (d : Deciding) → IsDeciding d → 1 ≤ d.across → 1 ≤ d.down → IsLawful d
+pub decided_lawful : (d : Deciding) → IsDeciding d → 1 ≤ d.across → 1 ≤ d.down → IsLawfulDecision d
 decided_lawful d h across down = record { table = table_lawful d h across down; samples = blocks_have d h }

@@ -6,12 +6,12 @@ use Rattle.std.proofs.lemmas.List.FromFn.{fill_by_all}
 use Rattle.dirac_block_table.specs.declared.block.Block.{Block}
 use Rattle.dirac_block_table.specs.Tables.{BlockTable, IsBlockTable, block_at, block_in, grey}
 use Rattle.dirac_decide.specs.Deciding.{Deciding}
-use Rattle.dirac_decide.specs.Splits.{IsDecided, block_by_rows, decided, split_of}
+use Rattle.dirac_decide.specs.Splits.{IsDecided, block_by_rows, decided, best_split_by_rows}
 
 -- the splits by rows
 splits_are : (d : Deciding) (t : BlockTable) → 1 ≤ d.across → IsDecided d t → length t.splits ≡ d.down * d.across
-    → t.splits ≡ map (split_of d) (range_with_len 0 (d.down * d.across))
-splits_are d t some is len = fill_by_all (split_of d) t.splits (d.down * d.across) 0 len (λ p l.
+    → t.splits ≡ map (best_split_by_rows d) (range_with_len 0 (d.down * d.across))
+splits_are d t some is len = fill_by_all (best_split_by_rows d) t.splits (d.down * d.across) 0 len (λ p l.
     ap (λ k. get_or t.splits k 0) (sym (place p)) ∙ is.splits (p % d.across) (p / d.across) (omega arith) (div_below p d.across d.down some (omega arith)))
   where
     place : (p : ℕ) → p / d.across * t.across + p % d.across ≡ p

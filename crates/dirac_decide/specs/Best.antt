@@ -2,7 +2,7 @@
 use Rattle.std.specs.Prelude.{◌≡◌, ℕ, ◌^◌, ◌≤◌, List}
 use Rattle.dirac_rows.specs.Answers.{AnswerRows}
 use Rattle.dirac_decide.specs.Deciding.{Deciding}
-use Rattle.dirac_decide.specs.Rooms.{IsRoom}
+use Rattle.dirac_decide.specs.Rooms.{IsRoomForUnits}
 use Rattle.dirac_decide.specs.Splits.{UnitsChosen, best_split}
 use Rattle.dirac_decide.specs.declared.superblock.BestSplit.{BestSplit}
 
@@ -11,7 +11,7 @@ pub record IsBestSplit (d : Deciding) (sx sy : ℕ) (b : BestSplit) : Type 0 whe
   pub at_most_2 : b.split ≤ 2
   pub best : best_split d sx sy ≡ b.split
   pub units : UnitsChosen d sx sy b.split (4 ^ b.split) b.units.items
-  pub room : IsRoom d b.split b.units.items
+  pub room : IsRoomForUnits d b.split b.units.items
 
 -- these are the best splits of all superblocks of row sy, with the blocks of their units
 abbrev pub IsBestRow : Deciding → ℕ → List BestSplit → Type 0

@@ -82,7 +82,7 @@ deciding s p first second = record {
 }
 
 -- a picture whose planes have samples alone
-pub record IsOfSamples (p : Picture) : Type 0 where
+pub record IsPictureOfSamples (p : Picture) : Type 0 where
   pub y : All IsSample p.y.values
   pub u : All IsSample p.u.values
   pub v : All IsSample p.v.values

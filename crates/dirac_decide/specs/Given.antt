@@ -17,8 +17,8 @@ abbrev pub views_of : Option RefView → Option View
 views_of second = option_map view_of second
 
 -- the data behind the references of what is decided from
-abbrev pub given : Inputs → Deciding
-given n = record {
+abbrev pub deciding_of : Inputs → Deciding
+deciding_of n = record {
   y = n.source.now.y;
   u = n.source.now.u;
   v = n.source.now.v;

@@ -6,11 +6,11 @@ use Rattle.dirac_upconvert.specs.HalfSamples.{IsSample}
 use Rattle.dirac_block_table.specs.declared.block.Block.{Block}
 use Rattle.dirac_block_table.specs.Tables.{grey}
 use Rattle.dirac_costs.specs.declared.window.Window.{Window}
-use Rattle.dirac_costs.specs.Bits.{bits_of, bits_of_vector}
+use Rattle.dirac_costs.specs.Bits.{bits_to_spell, bits_of_vector}
 use Rattle.dirac_costs.specs.Least.{first_least}
 use Rattle.dirac_costs.specs.Windows.{mean_over}
 use Rattle.dirac_decide.specs.Deciding.{Deciding, View}
-use Rattle.dirac_decide.specs.Units.{best_vector, distortion, least_cost, moved, unit_window}
+use Rattle.dirac_decide.specs.Units.{best_vector, unit_distortion, least_cost, samples_led_to, unit_window}
 use Rattle.dirac_decide.specs.declared.prediction_unit.PredictionUnit.{PredictionUnit}
 use Rattle.dirac_decide.specs.declared.choice.Choice.{Choice}
 
@@ -36,17 +36,17 @@ abbrev pub second_mode : Deciding → View → PredictionUnit → Choice
 second_mode d r u = record { cost = least_cost d r u; block = from_second (best_vector d r u) }
 
 -- the mean of two samples, halves up
-abbrev pub mean_of_two : ℤ → ℤ → ℤ
-mean_of_two a b = int_shr ((a +ℤ b) +ℤ pos 1) 1
+abbrev pub mean_of_samples : ℤ → ℤ → ℤ
+mean_of_samples a b = int_shr ((a +ℤ b) +ℤ pos 1) 1
 
 -- the means of two references' samples
-abbrev pub between : (ℕ → ℕ → ℤ) → (ℕ → ℕ → ℤ) → ℕ → ℕ → ℤ
-between f g x y = mean_of_two (f x y) (g x y)
+abbrev pub means_of_samples : (ℕ → ℕ → ℤ) → (ℕ → ℕ → ℤ) → ℕ → ℕ → ℤ
+means_of_samples f g x y = mean_of_samples (f x y) (g x y)
 
 -- how far the source is from the means of the samples to which two vectors lead, and the bits of both
 abbrev pub both_cost : Deciding → View → PredictionUnit → Vector → Vector → ℕ
 both_cost d r u v w =
-    distortion d u (between (moved d.precision d.first.up v) (moved d.precision r.up w))
+    unit_distortion d u (means_of_samples (samples_led_to d.precision d.first.up v) (samples_led_to d.precision r.up w))
     + d.bias * (bits_of_vector v + bits_of_vector w)
 
 -- mode 3: both references with their best vectors
@@ -71,11 +71,11 @@ dc_block d w = from_dc (mean_over d.y w) (mean_over d.u (chroma_window d w)) (me
 
 -- how many bits spell the DC values of a block
 abbrev pub bits_of_dc : Block → ℕ
-bits_of_dc b = bits_of b.dc_y + bits_of b.dc_u + bits_of b.dc_v
+bits_of_dc b = bits_to_spell b.dc_y + bits_to_spell b.dc_u + bits_to_spell b.dc_v
 
 -- how far the source is from a block's DC value, and the bits of all three
 abbrev pub dc_cost : Deciding → PredictionUnit → Block → ℕ
-dc_cost d u b = distortion d u (λ x y. b.dc_y) + d.bias * bits_of_dc b
+dc_cost d u b = unit_distortion d u (λ x y. b.dc_y) + d.bias * bits_of_dc b
 
 -- mode 4: the DC values
 abbrev pub dc_mode : Deciding → PredictionUnit → Choice
@@ -91,12 +91,12 @@ unfoldable pub choice_of : Deciding → PredictionUnit → Choice
 choice_of d u = first_least (λ (c : Choice). c.cost) (first_mode d u) (other_modes d u d.second)
 
 -- how many references there are
-abbrev pub refs_of : Option View → ℕ
-refs_of None = 1
-refs_of (Some r) = 2
+abbrev pub count_of_references : Option View → ℕ
+count_of_references None = 1
+count_of_references (Some r) = 2
 
 -- a block whose DC values are samples
-pub record HasSamples (b : Block) : Type 0 where
+pub record HasDcSamples (b : Block) : Type 0 where
   pub y : IsSample b.dc_y
   pub u : IsSample b.dc_u
   pub v : IsSample b.dc_v

@@ -6,8 +6,8 @@ use Rattle.dirac_common.specs.Table.{Table}
 use Rattle.dirac_costs.specs.declared.window.Window.{Window}
 use Rattle.dirac_costs.specs.Windows.{apart, over, sample_at}
 use Rattle.dirac_decide.specs.Deciding.{Deciding, IsFieldSize, View}
-use Rattle.dirac_decide.specs.Modes.{between, mean_of_two}
-use Rattle.dirac_decide.specs.Units.{distortion, moved}
+use Rattle.dirac_decide.specs.Modes.{means_of_samples, mean_of_samples}
+use Rattle.dirac_decide.specs.Units.{unit_distortion, samples_led_to}
 use Rattle.dirac_decide.specs.declared.prediction_unit.PredictionUnit.{PredictionUnit}
 use Rattle.dirac_decide.specs.declared.predictor.Moved.{Moved}
 use Rattle.dirac_decide.specs.declared.predictor.Predictor.{Predictor}
@@ -15,29 +15,29 @@ use Rattle.dirac_decide.specs.declared.predictor.Predictor.TheVariants as predic
 
 -- the samples to which a vector leads
 abbrev pub moved_samples : ℕ → Moved → ℕ → ℕ → ℤ
-moved_samples precision m = moved precision m.up.now m.vector
+moved_samples precision m = samples_led_to precision m.up.now m.vector
 
 -- the means of the samples to which two vectors lead
 abbrev pub both_samples : ℕ → Moved → Moved → ℕ → ℕ → ℤ
-both_samples precision m n = between (moved_samples precision m) (moved_samples precision n)
+both_samples precision m n = means_of_samples (moved_samples precision m) (moved_samples precision n)
 
 -- the mean of the values of two rows at place k
 abbrev pub mean_in : List ℤ → List ℤ → ℕ → ℤ
-mean_in first second k = mean_of_two (slice_index_or first k (pos 0)) (slice_index_or second k (pos 0))
+mean_in first second k = mean_of_samples (slice_index_or first k (pos 0)) (slice_index_or second k (pos 0))
 
 -- the samples of a predictor
-abbrev pub predicted : ℕ → Predictor → ℕ → ℕ → ℤ
-predicted precision (predictor.One m) = moved_samples precision m
-predicted precision (predictor.Both m n) = both_samples precision m n
-predicted precision (predictor.Flat value) = λ x y. value
+abbrev pub predictor_samples : ℕ → Predictor → ℕ → ℕ → ℤ
+predictor_samples precision (predictor.One m) = moved_samples precision m
+predictor_samples precision (predictor.Both m n) = both_samples precision m n
+predictor_samples precision (predictor.Flat value) = λ x y. value
 
 -- bits, and how far a plane is from a predictor in a window
-abbrev pub window_cost : Table → ℕ → Predictor → Window → ℕ → ℕ
-window_cost t precision p w bits = bits + over w (apart (sample_at t) (predicted precision p))
+abbrev pub predictor_cost : Table → ℕ → Predictor → Window → ℕ → ℕ
+predictor_cost t precision p w bits = bits + over w (apart (sample_at t) (predictor_samples precision p))
 
 -- how far the source is from a predictor in a unit, and bits
 abbrev pub unit_cost : Deciding → PredictionUnit → Predictor → ℕ → ℕ
-unit_cost d u p bits = distortion d u (predicted d.precision p) + bits
+unit_cost d u p bits = unit_distortion d u (predictor_samples d.precision p) + bits
 
 -- the first n values of a row are these
 abbrev pub RowIs : (ℕ → ℤ) → ℕ → List ℤ → Type 0

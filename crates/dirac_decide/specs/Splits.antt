@@ -8,7 +8,7 @@ use Rattle.dirac_costs.specs.Sums.{sum_below}
 use Rattle.dirac_types.specs.declared.settings.Settings.{Settings}
 use Rattle.dirac_common.specs.declared.picture.Picture.{Picture}
 use Rattle.dirac_decide.specs.Deciding.{Deciding, View, deciding}
-use Rattle.dirac_decide.specs.Modes.{choice_of, refs_of}
+use Rattle.dirac_decide.specs.Modes.{choice_of, count_of_references}
 use Rattle.dirac_decide.specs.declared.prediction_unit.PredictionUnit.{PredictionUnit}
 
 -- unit k, by rows, of superblock sx of row sy, where it has this split
@@ -36,7 +36,7 @@ best_block d sx sy i j =
 pub record IsDecided (d : Deciding) (t : BlockTable) : Type 0 where
   pub across : t.across ≡ d.across
   pub down : t.down ≡ d.down
-  pub refs : t.refs ≡ refs_of d.second
+  pub refs : t.refs ≡ count_of_references d.second
   pub splits : (x y : ℕ) → x < d.across → y < d.down → split_at t x y ≡ best_split d x y
   pub blocks : (x y i j : ℕ) → x < d.across → y < d.down → i < 4 → j < 4
       → block_in t x y i j ≡ best_block d x y i j
@@ -65,30 +65,30 @@ IsBefore x y sx sy = (y < sy) ⊎ ((y ≡ sy) × (x < sx))
 pub record DecidedTo (d : Deciding) (sx sy : ℕ) (t : BlockTable) : Type 0 where
   pub across : t.across ≡ d.across
   pub down : t.down ≡ d.down
-  pub refs : t.refs ≡ refs_of d.second
+  pub refs : t.refs ≡ count_of_references d.second
   pub splits : (x y : ℕ) → x < d.across → y < d.down → IsBefore x y sx sy → split_at t x y ≡ best_split d x y
   pub blocks : (x y i j : ℕ) → x < d.across → y < d.down → i < 4 → j < 4 → IsBefore x y sx sy
       → block_in t x y i j ≡ best_block d x y i j
 
 -- block i of row j of the picture
-abbrev pub block_of : Deciding → ℕ → ℕ → Block
-block_of d i j = best_block d (i / 4) (j / 4) (i % 4) (j % 4)
+abbrev pub best_block_at : Deciding → ℕ → ℕ → Block
+best_block_at d i j = best_block d (i / 4) (j / 4) (i % 4) (j % 4)
 
 -- the split of superblock p, by rows
-abbrev pub split_of : Deciding → ℕ → ℕ
-split_of d p = best_split d (p % d.across) (p / d.across)
+abbrev pub best_split_by_rows : Deciding → ℕ → ℕ
+best_split_by_rows d p = best_split d (p % d.across) (p / d.across)
 
 -- block p of the picture, by rows
 abbrev pub block_by_rows : Deciding → ℕ → Block
-block_by_rows d p = block_of d (p % (4 * d.across)) (p / (4 * d.across))
+block_by_rows d p = best_block_at d (p % (4 * d.across)) (p / (4 * d.across))
 
 -- the table of the best splits and blocks, as a value
 unfoldable pub decided : Deciding → BlockTable
 decided d = record {
   across = d.across;
   down = d.down;
-  refs = refs_of d.second;
-  splits = map (split_of d) (range_with_len 0 (d.down * d.across));
+  refs = count_of_references d.second;
+  splits = map (best_split_by_rows d) (range_with_len 0 (d.down * d.across));
   blocks = map (block_by_rows d) (range_with_len 0 (4 * d.down * (4 * d.across)));
 }
 

@@ -12,7 +12,7 @@ use Rattle.dirac_costs.specs.Sums.{sum_below}
 use Rattle.dirac_costs.specs.Windows.{apart, over, sample_at}
 use Rattle.dirac_inside.specs.Inside.{all_below, keeps_inside}
 use Rattle.dirac_inside.specs.declared.picture_blocks.PictureBlocks.{PictureBlocks}
-use Rattle.dirac_search.specs.Candidates.{no_motion, vector_at}
+use Rattle.dirac_search.specs.Candidates.{no_motion, field_vector}
 use Rattle.dirac_decide.specs.Deciding.{Deciding, View}
 use Rattle.dirac_decide.specs.declared.prediction_unit.PredictionUnit.{PredictionUnit}
 
@@ -29,21 +29,21 @@ abbrev pub block_distortion : Deciding → (ℕ → ℕ → ℤ) → ℕ → ℕ
 block_distortion d f i j = over (block_window d.grid i j) (apart (sample_at d.y) f)
 
 -- how far it is from them over the blocks of a unit
-unfoldable pub distortion : Deciding → PredictionUnit → (ℕ → ℕ → ℤ) → ℕ
-distortion d u f = sum_below (λ b. sum_below (λ a. block_distortion d f (u.i + a) (u.j + b)) u.size) u.size
+unfoldable pub unit_distortion : Deciding → PredictionUnit → (ℕ → ℕ → ℤ) → ℕ
+unit_distortion d u f = sum_below (λ b. sum_below (λ a. block_distortion d f (u.i + a) (u.j + b)) u.size) u.size
 
 -- the samples of a reference to which a vector leads; both count in 2 ^ precision parts of a sample
-abbrev pub moved : ℕ → Up → Vector → ℕ → ℕ → ℤ
-moved precision up v x y =
+abbrev pub samples_led_to : ℕ → Up → Vector → ℕ → ℕ → ℤ
+samples_led_to precision up v x y =
     sub_sample up precision (pos (2 ^ precision * x) +ℤ v.x) (pos (2 ^ precision * y) +ℤ v.y)
 
 -- candidate k of a unit: the vector of its block k, by rows
 abbrev pub candidate : View → PredictionUnit → ℕ → Vector
-candidate r u k = vector_at r.field (u.i + k % u.size) (u.j + k / u.size)
+candidate r u k = field_vector r.field (u.i + k % u.size) (u.j + k / u.size)
 
 -- what a vector costs
 abbrev pub vector_cost : Deciding → View → PredictionUnit → Vector → ℕ
-vector_cost d r u v = distortion d u (moved d.precision r.up v) + d.bias * bits_of_vector v
+vector_cost d r u v = unit_distortion d u (samples_led_to d.precision r.up v) + d.bias * bits_of_vector v
 
 -- what candidate k costs
 abbrev pub candidate_cost : Deciding → View → PredictionUnit → ℕ → ℕ
@@ -54,8 +54,8 @@ abbrev pub best_place : Deciding → View → PredictionUnit → ℕ
 best_place d r u = first_least_to (candidate_cost d r u) (u.size * u.size - 1)
 
 -- the blocks of the picture and the sizes of its planes
-abbrev pub blocks_of : Deciding → PictureBlocks
-blocks_of d = record {
+abbrev pub decided_blocks : Deciding → PictureBlocks
+decided_blocks d = record {
   grid = d.grid;
   width = d.y.width;
   height = d.y.height;
@@ -65,7 +65,7 @@ blocks_of d = record {
 
 -- whether a vector keeps inside from block k of a unit, by rows
 abbrev pub block_keeps : Deciding → PredictionUnit → Vector → ℕ → Bool
-block_keeps d u v k = keeps_inside (blocks_of d) d.precision (u.i + k % u.size) (u.j + k / u.size) v
+block_keeps d u v k = keeps_inside (decided_blocks d) d.precision (u.i + k % u.size) (u.j + k / u.size) v
 
 -- whether it keeps inside from all its blocks
 unfoldable pub unit_keeps : Deciding → PredictionUnit → Vector → Bool

@@ -3,7 +3,7 @@ ghost use Rattle.dirac_vectors.specs.Predictions.{IsShortVector};
 ghost use Rattle.dirac_costs.specs.Least.{IsToldBelow};
 ghost use Rattle.dirac_decide.specs.Choosing.{IsBestTo};
 ghost use Rattle.dirac_decide.specs.Deciding.{IsDeciding, IsView};
-ghost use Rattle.dirac_decide.specs.Given.{given, view_of};
+ghost use Rattle.dirac_decide.specs.Given.{deciding_of, view_of};
 ghost use Rattle.dirac_decide.specs.Insides.{IsCosted};
 ghost use Rattle.dirac_decide.specs.Predictors.{IsPredictionUnit, IsUnitOf};
 ghost use Rattle.dirac_decide.specs.Units as units;
@@ -63,10 +63,10 @@ pub fn vector_cost_below(
     vector: Vector,
     limit: u64,
 ) -> u64
-    requires inputs { IsDeciding (given inputs.now) }
+    requires inputs { IsDeciding (deciding_of inputs.now) }
     requires unit { IsPredictionUnit inputs.now.across inputs.now.down unit }
     requires vector { IsShortVector vector }
-    ensures told { IsToldBelow limit (units.vector_cost (given inputs.now) (view_of view.now) unit vector) result }
+    ensures told { IsToldBelow limit (units.vector_cost (deciding_of inputs.now) (view_of view.now) unit vector) result }
     ensures at_most_2_29 { result ≤ 2 ^ 29 }
 {
     let bits = price(inputs.bias, vector_bits(vector));
@@ -79,10 +79,10 @@ pub fn vector_cost_below(
 
 /// The first candidate of a unit.
 fn first_candidate(inputs: &Inputs<'_>, view: &RefView<'_>, unit: PredictionUnit) -> Best
-    requires inputs { IsDeciding (given inputs.now) }
+    requires inputs { IsDeciding (deciding_of inputs.now) }
     requires view { IsView inputs.now.across inputs.now.down (view_of view.now) }
     requires unit { IsPredictionUnit inputs.now.across inputs.now.down unit }
-    ensures { IsBestTo (given inputs.now) (view_of view.now) unit 0 result }
+    ensures { IsBestTo (deciding_of inputs.now) (view_of view.now) unit 0 result }
 {
     let vector = candidate(view, unit, 0);
     let cost = vector_cost_below(inputs, view, unit, vector, u64::MAX);
@@ -97,12 +97,12 @@ fn next_best(
     k: u32,
     best: Best,
 ) -> Best
-    requires inputs { IsDeciding (given inputs.now) }
+    requires inputs { IsDeciding (deciding_of inputs.now) }
     requires view { IsView inputs.now.across inputs.now.down (view_of view.now) }
     requires unit { IsPredictionUnit inputs.now.across inputs.now.down unit }
     requires inside { k + 1 < unit.size * unit.size }
-    requires best { IsBestTo (given inputs.now) (view_of view.now) unit k best }
-    ensures { IsBestTo (given inputs.now) (view_of view.now) unit (k + 1) result }
+    requires best { IsBestTo (deciding_of inputs.now) (view_of view.now) unit k best }
+    ensures { IsBestTo (deciding_of inputs.now) (view_of view.now) unit (k + 1) result }
 {
     let vector = candidate(view, unit, k + 1);
     if is_seen(view, unit, k, vector) {
@@ -118,11 +118,11 @@ fn next_best(
 
 /// The first candidate of least cost of a unit, where streams are to be shown alike of those that keep inside.
 pub fn best_of(inputs: &Inputs<'_>, view: &RefView<'_>, unit: PredictionUnit) -> Best
-    requires inputs { IsDeciding (given inputs.now) }
+    requires inputs { IsDeciding (deciding_of inputs.now) }
     requires view { IsView inputs.now.across inputs.now.down (view_of view.now) }
     requires unit { IsPredictionUnit inputs.now.across inputs.now.down unit }
-    ensures vector { result.vector ≡ units.best_vector (given inputs.now) (view_of view.now) unit }
-    ensures cost { result.cost ≡ units.least_cost (given inputs.now) (view_of view.now) unit }
+    ensures vector { result.vector ≡ units.best_vector (deciding_of inputs.now) (view_of view.now) unit }
+    ensures cost { result.cost ≡ units.least_cost (deciding_of inputs.now) (view_of view.now) unit }
     ensures of_16_bits { IsShortVector result.vector }
     ensures at_most_2_29 { result.cost ≤ 2 ^ 29 }
 {
@@ -135,12 +135,12 @@ pub fn best_of(inputs: &Inputs<'_>, view: &RefView<'_>, unit: PredictionUnit) ->
 
 /// The first candidate of least cost of a unit.
 fn best_of_all(inputs: &Inputs<'_>, view: &RefView<'_>, unit: PredictionUnit) -> Best
-    requires inputs { IsDeciding (given inputs.now) }
+    requires inputs { IsDeciding (deciding_of inputs.now) }
     requires view { IsView inputs.now.across inputs.now.down (view_of view.now) }
     requires unit { IsPredictionUnit inputs.now.across inputs.now.down unit }
     ensures vector { result.vector ≡ units.candidate (view_of view.now) unit
-        (units.best_place (given inputs.now) (view_of view.now) unit) }
-    ensures costed { IsCosted (given inputs.now) (view_of view.now) unit result }
+        (units.best_place (deciding_of inputs.now) (view_of view.now) unit) }
+    ensures costed { IsCosted (deciding_of inputs.now) (view_of view.now) unit result }
 {
     let mut best = first_candidate(inputs, view, unit);
     for k in 0..unit.size * unit.size - 1 {

@@ -1,7 +1,7 @@
 ghost use Rattle.std.specs.Prelude.{◌≡◌, ◌+◌, ◌*◌, ◌^◌, ◌≤◌};
 ghost use Rattle.dirac_costs.specs.Least.{IsToldBelow};
 ghost use Rattle.dirac_decide.specs.Deciding.{IsDeciding};
-ghost use Rattle.dirac_decide.specs.Given.{given};
+ghost use Rattle.dirac_decide.specs.Given.{deciding_of};
 ghost use Rattle.dirac_decide.specs.Predictors as predictors;
 
 use crate::inputs::Inputs;
@@ -24,7 +24,7 @@ fn cost_below(
     requires window { predictors.IsUnitWindow window }
     requires predictor { predictors.IsPredictor predictor.now }
     requires bits { bits ≤ 2 ^ 20 }
-    ensures told { IsToldBelow limit (predictors.window_cost source.now precision predictor.now window bits) result }
+    ensures told { IsToldBelow limit (predictors.predictor_cost source.now precision predictor.now window bits) result }
     ensures at_most_2_29 { result ≤ 2 ^ 29 }
 {
     let mut samples = [0i16; 64];
@@ -60,11 +60,11 @@ pub fn unit_cost_below(
     bits: u64,
     limit: u64,
 ) -> u64
-    requires inputs { IsDeciding (given inputs.now) }
+    requires inputs { IsDeciding (deciding_of inputs.now) }
     requires unit { predictors.IsPredictionUnit inputs.now.across inputs.now.down unit }
     requires predictor { predictors.IsPredictor predictor.now }
     requires bits { bits ≤ 2 ^ 20 }
-    ensures told { IsToldBelow limit (predictors.unit_cost (given inputs.now) unit predictor.now bits) result }
+    ensures told { IsToldBelow limit (predictors.unit_cost (deciding_of inputs.now) unit predictor.now bits) result }
     ensures at_most_2_29 { result ≤ 2 ^ 29 }
 {
     let window = unit_window(inputs, unit);

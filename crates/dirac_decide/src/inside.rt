@@ -4,7 +4,7 @@ ghost use Rattle.dirac_common.specs.declared.limits.TheConstants.{MOST_SUPERBLOC
 ghost use Rattle.dirac_vectors.specs.Predictions.{IsShortVector};
 ghost use Rattle.dirac_inside.specs.Ranges.{AreBlocks, HasTheInside, IsRange};
 ghost use Rattle.dirac_decide.specs.Deciding.{IsDeciding, IsView};
-ghost use Rattle.dirac_decide.specs.Given.{given, view_of};
+ghost use Rattle.dirac_decide.specs.Given.{deciding_of, view_of};
 ghost use Rattle.dirac_decide.specs.Insides.{HasTheUnitsInside, IsBestAmong, IsBestWhereSome, IsCosted};
 ghost use Rattle.dirac_decide.specs.Predictors.{IsPredictionUnit};
 ghost use Rattle.dirac_decide.specs.Units as units;
@@ -17,8 +17,8 @@ use dirac_inside::{PictureBlocks, VectorRange, inside_range};
 
 /// The blocks of the picture, and the sizes of its planes.
 fn blocks_of(inputs: &Inputs<'_>) -> PictureBlocks
-    requires { IsDeciding (given inputs.now) }
-    ensures value { result ≡ units.blocks_of (given inputs.now) }
+    requires { IsDeciding (deciding_of inputs.now) }
+    ensures value { result ≡ units.decided_blocks (deciding_of inputs.now) }
     ensures blocks { AreBlocks result }
 {
     PictureBlocks {
@@ -32,10 +32,10 @@ fn blocks_of(inputs: &Inputs<'_>) -> PictureBlocks
 
 /// The vectors that keep inside from all blocks of a unit.
 fn unit_range(inputs: &Inputs<'_>, unit: PredictionUnit) -> VectorRange
-    requires inputs { IsDeciding (given inputs.now) }
+    requires inputs { IsDeciding (deciding_of inputs.now) }
     requires sizes { (inputs.now.across ≤ MOST_SUPERBLOCKS) × (inputs.now.down ≤ MOST_SUPERBLOCKS) }
     requires unit { IsPredictionUnit inputs.now.across inputs.now.down unit }
-    ensures inside { HasTheUnitsInside (given inputs.now) unit result }
+    ensures inside { HasTheUnitsInside (deciding_of inputs.now) unit result }
     ensures range { IsRange result }
 {
     let blocks = blocks_of(inputs);
@@ -66,11 +66,11 @@ fn block_range(blocks: PictureBlocks, precision: u8, unit: PredictionUnit, k: u3
 
 /// A vector, and what it costs in a unit.
 fn costed(inputs: &Inputs<'_>, view: &RefView<'_>, unit: PredictionUnit, vector: Vector) -> Best
-    requires inputs { IsDeciding (given inputs.now) }
+    requires inputs { IsDeciding (deciding_of inputs.now) }
     requires unit { IsPredictionUnit inputs.now.across inputs.now.down unit }
     requires vector { IsShortVector vector }
     ensures vector { result.vector ≡ vector }
-    ensures costed { IsCosted (given inputs.now) (view_of view.now) unit result }
+    ensures costed { IsCosted (deciding_of inputs.now) (view_of view.now) unit result }
 {
     let cost = vector_cost_below(inputs, view, unit, vector, u64::MAX);
     Best { vector, cost }
@@ -84,11 +84,11 @@ fn better(
     vector: Vector,
     best: Best,
 ) -> Best
-    requires inputs { IsDeciding (given inputs.now) }
+    requires inputs { IsDeciding (deciding_of inputs.now) }
     requires unit { IsPredictionUnit inputs.now.across inputs.now.down unit }
     requires vector { IsShortVector vector }
-    ensures { (vs : List TheVector) → IsBestAmong (given inputs.now) (view_of view.now) unit vs best
-        → IsBestAmong (given inputs.now) (view_of view.now) unit (vs ++ vector ∷ []) result }
+    ensures { (vs : List TheVector) → IsBestAmong (deciding_of inputs.now) (view_of view.now) unit vs best
+        → IsBestAmong (deciding_of inputs.now) (view_of view.now) unit (vs ++ vector ∷ []) result }
 {
     if is_same(vector, best.vector) {
         return best;
@@ -110,16 +110,16 @@ fn next_inside(
     k: u32,
     best: Option<Best>,
 ) -> Option<Best>
-    requires inputs { IsDeciding (given inputs.now) }
+    requires inputs { IsDeciding (deciding_of inputs.now) }
     requires view { IsView inputs.now.across inputs.now.down (view_of view.now) }
     requires unit { IsPredictionUnit inputs.now.across inputs.now.down unit }
     requires range { IsRange range }
-    requires of_the_unit { HasTheUnitsInside (given inputs.now) unit range }
+    requires of_the_unit { HasTheUnitsInside (deciding_of inputs.now) unit range }
     requires inside { k < unit.size * unit.size }
-    requires best { IsBestWhereSome (given inputs.now) (view_of view.now) unit
-        (units.inside_to (given inputs.now) (view_of view.now) unit k) best }
-    ensures { IsBestWhereSome (given inputs.now) (view_of view.now) unit
-        (units.inside_to (given inputs.now) (view_of view.now) unit (k + 1)) result }
+    requires best { IsBestWhereSome (deciding_of inputs.now) (view_of view.now) unit
+        (units.inside_to (deciding_of inputs.now) (view_of view.now) unit k) best }
+    ensures { IsBestWhereSome (deciding_of inputs.now) (view_of view.now) unit
+        (units.inside_to (deciding_of inputs.now) (view_of view.now) unit (k + 1)) result }
 {
     let vector = candidate(view, unit, k);
     if !range.has(vector, 1) {
@@ -133,11 +133,11 @@ fn next_inside(
 
 /// The first of least cost of the candidates that keep inside; where none does, the vector of no motion.
 pub fn best_inside(inputs: &Inputs<'_>, view: &RefView<'_>, unit: PredictionUnit) -> Best
-    requires inputs { IsDeciding (given inputs.now) }
+    requires inputs { IsDeciding (deciding_of inputs.now) }
     requires view { IsView inputs.now.across inputs.now.down (view_of view.now) }
     requires unit { IsPredictionUnit inputs.now.across inputs.now.down unit }
-    ensures vector { result.vector ≡ units.best_inside (given inputs.now) (view_of view.now) unit }
-    ensures costed { IsCosted (given inputs.now) (view_of view.now) unit result }
+    ensures vector { result.vector ≡ units.best_inside (deciding_of inputs.now) (view_of view.now) unit }
+    ensures costed { IsCosted (deciding_of inputs.now) (view_of view.now) unit result }
 {
     let range = unit_range(inputs, unit);
     let mut best = None;

@@ -2,10 +2,11 @@
 
 ghost use Rattle.std.specs.Prelude.{ℕ, ◌≤◌};
 ghost use Rattle.dirac_decide.specs.Deciding.{Deciding as TheDeciding, IsDeciding, View as TheView};
-ghost use Rattle.dirac_decide.specs.Laws.{IsLawful, IsLeastMode, IsLeastSplit, IsLeastVector};
+ghost use Rattle.dirac_decide.specs.Laws.{IsLawfulDecision, IsLeastMode, IsLeastSplit, IsLeastVector};
 ghost use Rattle.dirac_decide.specs.declared.prediction_unit.PredictionUnit.{PredictionUnit as TheUnit};
 
-/// The best vector of a unit costs no more than any candidate, and less than all before it.
+/// The best vector of a unit costs no more than any candidate, and less than all before it; where streams are to be
+/// shown alike, the same of the candidates that keep inside from all blocks of the unit, and no motion where none does.
 pub fn best_vectors_cost_least()
     ensures { (d : TheDeciding) (r : TheView) (u : TheUnit) → IsLeastVector d r u }
 {}
@@ -22,5 +23,5 @@ pub fn best_splits_cost_least()
 
 /// The table that is decided is one that a picture can have, and its DC values are samples.
 pub fn decided_tables_are_lawful()
-    ensures { (d : TheDeciding) → IsDeciding d → 1 ≤ d.across → 1 ≤ d.down → IsLawful d }
+    ensures { (d : TheDeciding) → IsDeciding d → 1 ≤ d.across → 1 ≤ d.down → IsLawfulDecision d }
 {}

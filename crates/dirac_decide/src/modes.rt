@@ -2,10 +2,10 @@ ghost use Rattle.std.specs.Prelude.{◌≡◌, ℕ, ◌+◌, ◌^◌, ◌≤◌}
 ghost use Rattle.dirac_vectors.specs.Predictions.{IsShortVector};
 ghost use Rattle.dirac_block_table.specs.Tables.{IsBlock};
 ghost use Rattle.dirac_upconvert.specs.HalfSamples.{IsSample};
-ghost use Rattle.dirac_costs.specs.Bits.{bits_of};
+ghost use Rattle.dirac_costs.specs.Bits.{bits_to_spell};
 ghost use Rattle.dirac_decide.specs.Choosing as choosing;
 ghost use Rattle.dirac_decide.specs.Deciding.{IsDeciding, IsView};
-ghost use Rattle.dirac_decide.specs.Given.{given, view_of};
+ghost use Rattle.dirac_decide.specs.Given.{deciding_of, view_of};
 ghost use Rattle.dirac_decide.specs.Modes as modes;
 ghost use Rattle.dirac_decide.specs.Predictors.{IsChromaSource, IsPredictionUnit, IsUnitWindow};
 ghost use Rattle.dirac_decide.specs.Units as units;
@@ -84,7 +84,7 @@ fn chroma_window(inputs: &Inputs<'_>, window: Window) -> Window
     requires down { (1 ≤ inputs.now.down_ratio) × (inputs.now.down_ratio ≤ 2) }
     requires window { IsUnitWindow window }
     requires chroma { IsChromaSource window }
-    ensures value { result ≡ modes.chroma_window (given inputs.now) window }
+    ensures value { result ≡ modes.chroma_window (deciding_of inputs.now) window }
     ensures window { IsUnitWindow result }
 {
     Window {
@@ -97,10 +97,10 @@ fn chroma_window(inputs: &Inputs<'_>, window: Window) -> Window
 
 /// The DC values of a unit's window.
 fn dc_block(inputs: &Inputs<'_>, window: Window) -> Block
-    requires inputs { IsDeciding (given inputs.now) }
+    requires inputs { IsDeciding (deciding_of inputs.now) }
     requires window { IsUnitWindow window }
     requires chroma { IsChromaSource window }
-    ensures value { result ≡ modes.dc_block (given inputs.now) window }
+    ensures value { result ≡ modes.dc_block (deciding_of inputs.now) window }
     ensures block { (refs : ℕ) → IsBlock refs result }
     ensures y { IsSample result.dc_y }
     ensures u { IsSample result.dc_u }
@@ -131,13 +131,13 @@ fn luma(block: &Block) -> i16
 
 /// The choice, unless the DC values cost less.
 fn with_dc(inputs: &Inputs<'_>, unit: PredictionUnit, choice: Choice) -> Choice
-    requires inputs { IsDeciding (given inputs.now) }
+    requires inputs { IsDeciding (deciding_of inputs.now) }
     requires unit { IsPredictionUnit inputs.now.across inputs.now.down unit }
     requires at_most_2_29 { choice.cost ≤ 2 ^ 29 }
-    requires block { IsBlock (modes.refs_of (given inputs.now).second) choice.block }
-    ensures value { result ≡ choosing.cheaper choice (modes.dc_mode (given inputs.now) unit) }
+    requires block { IsBlock (modes.count_of_references (deciding_of inputs.now).second) choice.block }
+    ensures value { result ≡ choosing.cheaper choice (modes.dc_mode (deciding_of inputs.now) unit) }
     ensures at_most_2_29 { result.cost ≤ 2 ^ 29 }
-    ensures block { IsBlock (modes.refs_of (given inputs.now).second) result.block }
+    ensures block { IsBlock (modes.count_of_references (deciding_of inputs.now).second) result.block }
 {
     let window = unit_window(inputs, unit);
     let block = dc_block(inputs, window);
@@ -157,15 +157,16 @@ fn with_both(
     w: Vector,
     choice: Choice,
 ) -> Choice
-    requires inputs { IsDeciding (given inputs.now) }
+    requires inputs { IsDeciding (deciding_of inputs.now) }
     requires unit { IsPredictionUnit inputs.now.across inputs.now.down unit }
-    requires v { v ≡ units.best_vector (given inputs.now) (given inputs.now).first unit }
-    requires w { w ≡ units.best_vector (given inputs.now) (view_of view.now) unit }
+    requires v { v ≡ units.best_vector (deciding_of inputs.now) (deciding_of inputs.now).first unit }
+    requires w { w ≡ units.best_vector (deciding_of inputs.now) (view_of view.now) unit }
     requires v_of_16_bits { IsShortVector v }
     requires w_of_16_bits { IsShortVector w }
     requires at_most_2_29 { choice.cost ≤ 2 ^ 29 }
     requires block { IsBlock 2 choice.block }
-    ensures value { result ≡ choosing.cheaper choice (modes.both_mode (given inputs.now) (view_of view.now) unit) }
+    ensures value { result
+        ≡ choosing.cheaper choice (modes.both_mode (deciding_of inputs.now) (view_of view.now) unit) }
     ensures at_most_2_29 { result.cost ≤ 2 ^ 29 }
     ensures block { IsBlock 2 result.block }
 {
@@ -195,14 +196,14 @@ fn with_second(
     v: Vector,
     choice: Choice,
 ) -> Choice
-    requires inputs { IsDeciding (given inputs.now) }
+    requires inputs { IsDeciding (deciding_of inputs.now) }
     requires view { IsView inputs.now.across inputs.now.down (view_of view.now) }
     requires unit { IsPredictionUnit inputs.now.across inputs.now.down unit }
-    requires v { v ≡ units.best_vector (given inputs.now) (given inputs.now).first unit }
+    requires v { v ≡ units.best_vector (deciding_of inputs.now) (deciding_of inputs.now).first unit }
     requires v_of_16_bits { IsShortVector v }
     requires at_most_2_29 { choice.cost ≤ 2 ^ 29 }
     requires block { IsBlock 2 choice.block }
-    ensures value { result ≡ choosing.with_second (given inputs.now) (view_of view.now) unit choice }
+    ensures value { result ≡ choosing.with_second (deciding_of inputs.now) (view_of view.now) unit choice }
     ensures at_most_2_29 { result.cost ≤ 2 ^ 29 }
     ensures block { IsBlock 2 result.block }
 {
@@ -214,11 +215,11 @@ fn with_second(
 
 /// The first mode with motion of least cost.
 fn with_motion(inputs: &Inputs<'_>, unit: PredictionUnit) -> Choice
-    requires inputs { IsDeciding (given inputs.now) }
+    requires inputs { IsDeciding (deciding_of inputs.now) }
     requires unit { IsPredictionUnit inputs.now.across inputs.now.down unit }
-    ensures value { result ≡ choosing.motion_mode (given inputs.now) unit (given inputs.now).second }
+    ensures value { result ≡ choosing.motion_mode (deciding_of inputs.now) unit (deciding_of inputs.now).second }
     ensures at_most_2_29 { result.cost ≤ 2 ^ 29 }
-    ensures block { IsBlock (modes.refs_of (given inputs.now).second) result.block }
+    ensures block { IsBlock (modes.count_of_references (deciding_of inputs.now).second) result.block }
 {
     let best = best_of(inputs, &inputs.first, unit);
     let choice = Choice {
@@ -233,11 +234,11 @@ fn with_motion(inputs: &Inputs<'_>, unit: PredictionUnit) -> Choice
 
 /// The first mode of least cost of a unit.
 pub fn choose(inputs: &Inputs<'_>, unit: PredictionUnit) -> Choice
-    requires inputs { IsDeciding (given inputs.now) }
+    requires inputs { IsDeciding (deciding_of inputs.now) }
     requires unit { IsPredictionUnit inputs.now.across inputs.now.down unit }
-    ensures value { result ≡ modes.choice_of (given inputs.now) unit }
+    ensures value { result ≡ modes.choice_of (deciding_of inputs.now) unit }
     ensures at_most_2_29 { result.cost ≤ 2 ^ 29 }
-    ensures block { IsBlock (modes.refs_of (given inputs.now).second) result.block }
+    ensures block { IsBlock (modes.count_of_references (deciding_of inputs.now).second) result.block }
 {
     let choice = with_motion(inputs, unit);
     with_dc(inputs, unit, choice)

@@ -1,6 +1,6 @@
 ghost use Rattle.std.specs.Prelude.{◌≡◌};
 ghost use Rattle.dirac_decide.specs.Deciding.{IsDeciding};
-ghost use Rattle.dirac_decide.specs.Given.{given};
+ghost use Rattle.dirac_decide.specs.Given.{deciding_of};
 ghost use Rattle.dirac_decide.specs.Predictors.{IsPredictionUnit, IsUnitWindow};
 ghost use Rattle.dirac_decide.specs.Units as units;
 
@@ -17,7 +17,7 @@ pub struct PredictionUnit {
 
 /// The window of a unit in luma.
 pub fn unit_window(inputs: &Inputs<'_>, unit: PredictionUnit) -> Window
-    requires inputs { IsDeciding (given inputs.now) }
+    requires inputs { IsDeciding (deciding_of inputs.now) }
     requires unit { IsPredictionUnit inputs.now.across inputs.now.down unit }
     ensures value { result ≡ units.unit_window inputs.now.grid unit }
     ensures window { IsUnitWindow result }

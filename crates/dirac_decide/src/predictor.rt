@@ -5,9 +5,9 @@ ghost use Rattle.std.specs.List.{All};
 ghost use Rattle.dirac_vectors.specs.Neighbours.{IsShort};
 ghost use Rattle.dirac_vectors.specs.Predictions.{IsShortVector};
 ghost use Rattle.dirac_upconvert.specs.HalfSamples.{IsSample};
-ghost use Rattle.dirac_decide.specs.Modes.{mean_of_two};
+ghost use Rattle.dirac_decide.specs.Modes.{mean_of_samples};
 ghost use Rattle.dirac_decide.specs.Predictors.{IsPredictor, RowHolds, RowIs, both_samples, mean_in, moved_samples};
-ghost use Rattle.dirac_decide.specs.Predictors.{predicted};
+ghost use Rattle.dirac_decide.specs.Predictors.{predictor_samples};
 
 use dirac_common::Vector;
 use dirac_upconvert::UpPlane;
@@ -76,7 +76,7 @@ fn half(sum: i16) -> i16
 fn mean(a: i16, b: i16) -> i16
     requires a { IsSample a }
     requires b { IsSample b }
-    ensures value { result ≡ mean_of_two a b }
+    ensures value { result ≡ mean_of_samples a b }
     ensures sample { IsSample result }
 {
     half(a + b + 1)
@@ -139,7 +139,7 @@ pub fn predicted_row(precision: u8, predictor: &Predictor<'_>, x: u32, y: u32, o
     requires x { x ≤ 65536 }
     requires y { y ≤ 131072 }
     requires at_most_64 { length out.old ≤ 64 }
-    ensures value { RowHolds (predicted precision predictor.now) x y (length out.old) out.new }
+    ensures value { RowHolds (predictor_samples precision predictor.now) x y (length out.old) out.new }
 {
     match predictor {
         Predictor::One(moved) => moved_row(precision, moved, x, y, out),

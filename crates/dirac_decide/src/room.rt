@@ -1,6 +1,6 @@
 ghost use Rattle.std.specs.Prelude.{◌≡◌, ◌^◌, ◌≤◌, IfOk};
-ghost use Rattle.dirac_decide.specs.Given.{given};
-ghost use Rattle.dirac_decide.specs.Rooms.{IsRoom};
+ghost use Rattle.dirac_decide.specs.Given.{deciding_of};
+ghost use Rattle.dirac_decide.specs.Rooms.{IsRoomForUnits};
 
 use crate::inputs::Inputs;
 use dirac_block_table::{Block, grey_block};
@@ -22,7 +22,7 @@ fn units_of(split: u8) -> usize
 /// Room for the blocks of a split's units.
 pub fn room(alloc: Global, inputs: &Inputs<'_>, split: u8) -> Result<Vec<Block>, NoMemory>
     requires { split ≤ 2 }
-    ensures { IfOk result (λ units. IsRoom (given inputs.now) split units.items) }
+    ensures { IfOk result (λ units. IsRoomForUnits (deciding_of inputs.now) split units.items) }
 {
     let count = units_of(split);
     Ok(vec![in alloc; grey_block(); count]?)

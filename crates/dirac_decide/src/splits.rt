@@ -2,9 +2,9 @@ ghost use Rattle.std.specs.Prelude.{◌≡◌, ◌+◌, ◌*◌, ◌^◌, ◌<�
 ghost use Rattle.dirac_block_table.specs.Tables.{unit_size};
 ghost use Rattle.dirac_costs.specs.Least.{IsToldBelow};
 ghost use Rattle.dirac_decide.specs.Deciding.{IsDeciding};
-ghost use Rattle.dirac_decide.specs.Given.{given};
+ghost use Rattle.dirac_decide.specs.Given.{deciding_of};
 ghost use Rattle.dirac_decide.specs.Predictors.{IsPredictionUnit};
-ghost use Rattle.dirac_decide.specs.Rooms.{IsRoom, IsSuperblock};
+ghost use Rattle.dirac_decide.specs.Rooms.{IsRoomForUnits, IsSuperblock};
 ghost use Rattle.dirac_decide.specs.Splits as splits;
 
 use crate::inputs::Inputs;
@@ -41,14 +41,14 @@ pub fn split_below(
     limit: u64,
     units: &mut [Block],
 ) -> u64
-    requires inputs { IsDeciding (given inputs.now) }
-    requires superblock { IsSuperblock (given inputs.now) sx sy }
+    requires inputs { IsDeciding (deciding_of inputs.now) }
+    requires superblock { IsSuperblock (deciding_of inputs.now) sx sy }
     requires split { split ≤ 2 }
-    requires units { IsRoom (given inputs.now) split units.old }
-    ensures told { IsToldBelow limit (splits.split_cost (given inputs.now) sx sy split) result }
+    requires units { IsRoomForUnits (deciding_of inputs.now) split units.old }
+    ensures told { IsToldBelow limit (splits.split_cost (deciding_of inputs.now) sx sy split) result }
     ensures at_most_2_33 { result ≤ 2 ^ 33 }
-    ensures chosen { result < limit → splits.UnitsChosen (given inputs.now) sx sy split (4 ^ split) units.new }
-    ensures units { IsRoom (given inputs.now) split units.new }
+    ensures chosen { result < limit → splits.UnitsChosen (deciding_of inputs.now) sx sy split (4 ^ split) units.new }
+    ensures units { IsRoomForUnits (deciding_of inputs.now) split units.new }
 {
     let mut cost = 0;
     for k in 0..units.len() {

@@ -1,9 +1,9 @@
 ghost use Rattle.std.specs.Prelude.{◌≡◌, ◌^◌, ◌<◌, ◌≤◌, IfOk};
 ghost use Rattle.dirac_costs.specs.Least.{IsToldBelow};
 ghost use Rattle.dirac_decide.specs.Deciding.{IsDeciding};
-ghost use Rattle.dirac_decide.specs.Given.{given};
+ghost use Rattle.dirac_decide.specs.Given.{deciding_of};
 ghost use Rattle.dirac_decide.specs.Best.{IsBestRow, IsBestSplit};
-ghost use Rattle.dirac_decide.specs.Rooms.{IsRoom, IsSuperblock};
+ghost use Rattle.dirac_decide.specs.Rooms.{IsRoomForUnits, IsSuperblock};
 ghost use Rattle.dirac_decide.specs.Splits.{UnitsChosen, best_split, split_cost};
 
 use crate::inputs::Inputs;
@@ -30,14 +30,14 @@ fn cost_of_split(
     limit: u64,
     units: &mut Vec<Block>,
 ) -> u64
-    requires inputs { IsDeciding (given inputs.now) }
-    requires superblock { IsSuperblock (given inputs.now) sx sy }
+    requires inputs { IsDeciding (deciding_of inputs.now) }
+    requires superblock { IsSuperblock (deciding_of inputs.now) sx sy }
     requires split { split ≤ 2 }
-    requires units { IsRoom (given inputs.now) split units.old.items }
-    ensures told { IsToldBelow limit (split_cost (given inputs.now) sx sy split) result }
+    requires units { IsRoomForUnits (deciding_of inputs.now) split units.old.items }
+    ensures told { IsToldBelow limit (split_cost (deciding_of inputs.now) sx sy split) result }
     ensures at_most_2_33 { result ≤ 2 ^ 33 }
-    ensures chosen { result < limit → UnitsChosen (given inputs.now) sx sy split (4 ^ split) units.new.items }
-    ensures units { IsRoom (given inputs.now) split units.new.items }
+    ensures chosen { result < limit → UnitsChosen (deciding_of inputs.now) sx sy split (4 ^ split) units.new.items }
+    ensures units { IsRoomForUnits (deciding_of inputs.now) split units.new.items }
 {
     split_below(inputs, sx, sy, split, limit, units.as_mut_slice())
 }
@@ -52,10 +52,10 @@ fn taken(
     units: &[Block],
 ) -> Result<BestSplit, NoMemory>
     requires at_most_2 { split ≤ 2 }
-    requires best { best_split (given inputs.now) sx sy ≡ split }
-    requires units { UnitsChosen (given inputs.now) sx sy split (4 ^ split) units.now }
-    requires units_fit { IsRoom (given inputs.now) split units.now }
-    ensures { IfOk result (IsBestSplit (given inputs.now) sx sy) }
+    requires best { best_split (deciding_of inputs.now) sx sy ≡ split }
+    requires units { UnitsChosen (deciding_of inputs.now) sx sy split (4 ^ split) units.now }
+    requires units_fit { IsRoomForUnits (deciding_of inputs.now) split units.now }
+    ensures { IfOk result (IsBestSplit (deciding_of inputs.now) sx sy) }
 {
     let units = Vec::from_slice(alloc, units)?;
     Ok(BestSplit { split, units })
@@ -71,15 +71,15 @@ fn decide_superblock(
     quarters: &mut Vec<Block>,
     sixteenths: &mut Vec<Block>,
 ) -> Result<BestSplit, NoMemory>
-    requires inputs { IsDeciding (given inputs.now) }
-    requires superblock { IsSuperblock (given inputs.now) sx sy }
-    requires undivided { IsRoom (given inputs.now) 0 undivided.old.items }
-    requires quarters { IsRoom (given inputs.now) 1 quarters.old.items }
-    requires sixteenths { IsRoom (given inputs.now) 2 sixteenths.old.items }
-    ensures best { IfOk result (IsBestSplit (given inputs.now) sx sy) }
-    ensures undivided { IsRoom (given inputs.now) 0 undivided.new.items }
-    ensures quarters { IsRoom (given inputs.now) 1 quarters.new.items }
-    ensures sixteenths { IsRoom (given inputs.now) 2 sixteenths.new.items }
+    requires inputs { IsDeciding (deciding_of inputs.now) }
+    requires superblock { IsSuperblock (deciding_of inputs.now) sx sy }
+    requires undivided { IsRoomForUnits (deciding_of inputs.now) 0 undivided.old.items }
+    requires quarters { IsRoomForUnits (deciding_of inputs.now) 1 quarters.old.items }
+    requires sixteenths { IsRoomForUnits (deciding_of inputs.now) 2 sixteenths.old.items }
+    ensures best { IfOk result (IsBestSplit (deciding_of inputs.now) sx sy) }
+    ensures undivided { IsRoomForUnits (deciding_of inputs.now) 0 undivided.new.items }
+    ensures quarters { IsRoomForUnits (deciding_of inputs.now) 1 quarters.new.items }
+    ensures sixteenths { IsRoomForUnits (deciding_of inputs.now) 2 sixteenths.new.items }
 {
     let one = cost_of_split(inputs, sx, sy, 0, u64::MAX, undivided);
     let four = cost_of_split(inputs, sx, sy, 1, one, quarters);
@@ -102,10 +102,10 @@ fn decide_superblock(
 
 /// Decides the superblocks of row `sy`. No other row is read.
 pub fn decide_row(alloc: Global, inputs: &Inputs<'_>, sy: u32) -> Result<Vec<BestSplit>, NoMemory>
-    requires inputs { IsDeciding (given inputs.now) }
+    requires inputs { IsDeciding (deciding_of inputs.now) }
     requires across { inputs.now.across ≤ MOST_SUPERBLOCKS }
     requires down { (sy < inputs.now.down) × (inputs.now.down ≤ MOST_SUPERBLOCKS) }
-    ensures { IfOk result (λ v. IsBestRow (given inputs.now) sy v.items) }
+    ensures { IfOk result (λ v. IsBestRow (deciding_of inputs.now) sy v.items) }
 {
     let mut undivided = room(alloc, inputs, 0)?;
     let mut quarters = room(alloc, inputs, 1)?;

@@ -6,8 +6,8 @@ ghost use Rattle.dirac_block_table.specs.Tables.{IsBlockTable};
 ghost use Rattle.dirac_rows.specs.Answers.{AnswerRows};
 ghost use Rattle.dirac_decide.specs.Best.{IsBestRow, IsBestSplit};
 ghost use Rattle.dirac_decide.specs.Deciding as deciding;
-ghost use Rattle.dirac_decide.specs.Given.{decided_from, given, view_of, views_of};
-ghost use Rattle.dirac_decide.specs.Modes.{HasSamples, refs_of};
+ghost use Rattle.dirac_decide.specs.Given.{decided_from, deciding_of, view_of, views_of};
+ghost use Rattle.dirac_decide.specs.Modes.{HasDcSamples, count_of_references};
 ghost use Rattle.dirac_decide.specs.Rooms.{IsSuperblock, IsTableFor};
 ghost use Rattle.dirac_decide.specs.Splits.{DecidedTo, IsDecided, SuperblockDecided, decided};
 
@@ -25,7 +25,7 @@ use std::thread::Threads;
 
 /// How many references there are.
 fn references(inputs: &Inputs<'_>) -> u8
-    ensures { result ≡ refs_of (given inputs.now).second }
+    ensures { result ≡ count_of_references (deciding_of inputs.now).second }
 {
     match inputs.second {
         Some(_) => 2,
@@ -35,19 +35,19 @@ fn references(inputs: &Inputs<'_>) -> u8
 
 /// Lends what was decided for superblock `sx` of row `sy`.
 fn best_at<'a>(inputs: &Inputs<'_>, sy: u32, row: &'a [BestSplit], sx: u32) -> &'a BestSplit
-    requires row { IsBestRow (given inputs.now) sy row.now }
+    requires row { IsBestRow (deciding_of inputs.now) sy row.now }
     requires inside { sx < inputs.now.across }
-    ensures { IsBestSplit (given inputs.now) sx sy result.now }
+    ensures { IsBestSplit (deciding_of inputs.now) sx sy result.now }
 {
     &row[sx as usize]
 }
 
 /// Writes what was decided for superblock `sx` of row `sy`.
 fn put_best(inputs: &Inputs<'_>, sx: u32, sy: u32, best: &BestSplit, table: &mut BlockData)
-    requires superblock { IsSuperblock (given inputs.now) sx sy }
-    requires best { IsBestSplit (given inputs.now) sx sy best.now }
-    requires table { IsTableFor (given inputs.now) table.old }
-    ensures { SuperblockDecided (given inputs.now) sx sy table.old table.new }
+    requires superblock { IsSuperblock (deciding_of inputs.now) sx sy }
+    requires best { IsBestSplit (deciding_of inputs.now) sx sy best.now }
+    requires table { IsTableFor (deciding_of inputs.now) table.old }
+    ensures { SuperblockDecided (deciding_of inputs.now) sx sy table.old table.new }
 {
     table.put(sx, sy, best.split, best.units.as_slice());
 }
@@ -56,9 +56,9 @@ fn put_best(inputs: &Inputs<'_>, sx: u32, sy: u32, best: &BestSplit, table: &mut
 fn put_row(inputs: &Inputs<'_>, sy: u32, row: &[BestSplit], table: &mut BlockData)
     requires across { inputs.now.across ≤ MOST_SUPERBLOCKS }
     requires down { (sy < inputs.now.down) × (inputs.now.down ≤ MOST_SUPERBLOCKS) }
-    requires row { IsBestRow (given inputs.now) sy row.now }
-    requires table { DecidedTo (given inputs.now) 0 sy table.old }
-    ensures { DecidedTo (given inputs.now) 0 (sy + 1) table.new }
+    requires row { IsBestRow (deciding_of inputs.now) sy row.now }
+    requires table { DecidedTo (deciding_of inputs.now) 0 sy table.old }
+    ensures { DecidedTo (deciding_of inputs.now) 0 (sy + 1) table.new }
 {
     for sx in 0..inputs.across {
         put_best(inputs, sx, sy, best_at(inputs, sy, row, sx), table);
@@ -67,9 +67,9 @@ fn put_row(inputs: &Inputs<'_>, sy: u32, row: &[BestSplit], table: &mut BlockDat
 
 /// Lends what was decided for row `sy`.
 fn row_at<'a>(inputs: &Inputs<'_>, rows: &'a [Vec<BestSplit>], sy: u32) -> &'a Vec<BestSplit>
-    requires rows { AnswerRows (λ r v. IsBestRow (given inputs.now) r v.items) inputs.now.down rows.now }
+    requires rows { AnswerRows (λ r v. IsBestRow (deciding_of inputs.now) r v.items) inputs.now.down rows.now }
     requires inside { sy < inputs.now.down }
-    ensures { IsBestRow (given inputs.now) sy result.now.items }
+    ensures { IsBestRow (deciding_of inputs.now) sy result.now.items }
 {
     &rows[sy as usize]
 }
@@ -78,9 +78,9 @@ fn row_at<'a>(inputs: &Inputs<'_>, rows: &'a [Vec<BestSplit>], sy: u32) -> &'a V
 fn put_rows(inputs: &Inputs<'_>, rows: &[Vec<BestSplit>], table: &mut BlockData)
     requires across { inputs.now.across ≤ MOST_SUPERBLOCKS }
     requires down { inputs.now.down ≤ MOST_SUPERBLOCKS }
-    requires rows { AnswerRows (λ r v. IsBestRow (given inputs.now) r v.items) inputs.now.down rows.now }
-    requires table { IsTableFor (given inputs.now) table.old }
-    ensures table { IsDecided (given inputs.now) table.new }
+    requires rows { AnswerRows (λ r v. IsBestRow (deciding_of inputs.now) r v.items) inputs.now.down rows.now }
+    requires table { IsTableFor (deciding_of inputs.now) table.old }
+    ensures table { IsDecided (deciding_of inputs.now) table.new }
 {
     for sy in 0..inputs.down {
         put_row(inputs, sy, row_at(inputs, rows, sy).as_slice(), table);
@@ -93,13 +93,13 @@ fn table_of(
     inputs: &Inputs<'_>,
     rows: &[Vec<BestSplit>],
 ) -> Result<BlockData, NoMemory>
-    requires inputs { deciding.IsDeciding (given inputs.now) }
+    requires inputs { deciding.IsDeciding (deciding_of inputs.now) }
     requires across { (1 ≤ inputs.now.across) × (inputs.now.across ≤ MOST_SUPERBLOCKS) }
     requires down { (1 ≤ inputs.now.down) × (inputs.now.down ≤ MOST_SUPERBLOCKS) }
-    requires rows { AnswerRows (λ r v. IsBestRow (given inputs.now) r v.items) inputs.now.down rows.now }
-    ensures table { IfOk result (λ t. t ≡ decided (given inputs.now)) }
+    requires rows { AnswerRows (λ r v. IsBestRow (deciding_of inputs.now) r v.items) inputs.now.down rows.now }
+    ensures table { IfOk result (λ t. t ≡ decided (deciding_of inputs.now)) }
     ensures lawful { IfOk result IsBlockTable }
-    ensures samples { IfOk result (λ t. All HasSamples t.blocks) }
+    ensures samples { IfOk result (λ t. All HasDcSamples t.blocks) }
 {
     let mut table = BlockData::try_new(alloc, inputs.across, inputs.down, references(inputs))?;
     put_rows(inputs, rows, &mut table);
@@ -109,10 +109,11 @@ fn table_of(
 
 /// What is decided for each row, one after the other.
 fn rows_of(alloc: Global, inputs: &Inputs<'_>) -> Result<Vec<Vec<BestSplit>>, NoMemory>
-    requires inputs { deciding.IsDeciding (given inputs.now) }
+    requires inputs { deciding.IsDeciding (deciding_of inputs.now) }
     requires across { inputs.now.across ≤ MOST_SUPERBLOCKS }
     requires down { inputs.now.down ≤ MOST_SUPERBLOCKS }
-    ensures { IfOk result (λ v. AnswerRows (λ r v. IsBestRow (given inputs.now) r v.items) inputs.now.down v.items) }
+    ensures { IfOk result
+        (λ v. AnswerRows (λ r v. IsBestRow (deciding_of inputs.now) r v.items) inputs.now.down v.items) }
 {
     let mut rows = Vec::new(alloc);
     for sy in 0..inputs.down {
@@ -129,16 +130,17 @@ fn rows_by_workers<R: Threads + Sync>(
     inputs: &Inputs<'_>,
     workers: u32,
 ) -> Result<Vec<Vec<BestSplit>>, NoMemory>
-    requires inputs { deciding.IsDeciding (given inputs.now) }
+    requires inputs { deciding.IsDeciding (deciding_of inputs.now) }
     requires across { inputs.now.across ≤ MOST_SUPERBLOCKS }
     requires down { inputs.now.down ≤ MOST_SUPERBLOCKS }
     requires workers { (1 ≤ workers) × (workers ≤ 64) }
-    ensures { IfOk result (λ v. AnswerRows (λ r v. IsBestRow (given inputs.now) r v.items) inputs.now.down v.items) }
+    ensures { IfOk result
+        (λ v. AnswerRows (λ r v. IsBestRow (deciding_of inputs.now) r v.items) inputs.now.down v.items) }
 {
     let work = |sy: u32| -> Result<Vec<BestSplit>, NoMemory>
-        requires { deciding.IsDeciding (given inputs.now) × (inputs.now.across ≤ MOST_SUPERBLOCKS)
+        requires { deciding.IsDeciding (deciding_of inputs.now) × (inputs.now.across ≤ MOST_SUPERBLOCKS)
             × (sy < inputs.now.down) × (inputs.now.down ≤ MOST_SUPERBLOCKS) }
-        ensures { IfOk result (λ v. IsBestRow (given inputs.entry.now) sy v.items) }
+        ensures { IfOk result (λ v. IsBestRow (deciding_of inputs.entry.now) sy v.items) }
     { decide_row(alloc, inputs, sy) };
     map_rows(rt, alloc, inputs.down, workers, &OpenGate, &work)
 }
@@ -169,11 +171,11 @@ fn inputs_of<'a>(
     second: Option<RefView<'a>>,
 ) -> Inputs<'a>
     requires settings { IsAccepted settings.now }
-    requires source { deciding.IsOfSamples source.now }
+    requires source { deciding.IsPictureOfSamples source.now }
     requires first { deciding.IsSearched settings.now source.now (view_of first) }
     requires second { ForSome (views_of second) (deciding.IsSearched settings.now source.now) }
-    ensures value { decided (given result) ≡ decided_from settings.now source.now first.entry second.entry }
-    ensures deciding { deciding.IsDeciding (given result) }
+    ensures value { decided (deciding_of result) ≡ decided_from settings.now source.now first.entry second.entry }
+    ensures deciding { deciding.IsDeciding (deciding_of result) }
     ensures across { (1 ≤ result.across) × (result.across ≤ MOST_SUPERBLOCKS) }
     ensures down { (1 ≤ result.down) × (result.down ≤ MOST_SUPERBLOCKS) }
 {
@@ -209,12 +211,12 @@ pub fn decide(
     second: Option<RefView<'_>>,
 ) -> Result<BlockData, NoMemory>
     requires settings { IsAccepted settings.now }
-    requires source { deciding.IsOfSamples source.now }
+    requires source { deciding.IsPictureOfSamples source.now }
     requires first { deciding.IsSearched settings.now source.now (view_of first) }
     requires second { ForSome (views_of second) (deciding.IsSearched settings.now source.now) }
     ensures table { IfOk result (λ t. t ≡ decided_from settings.now source.now first.entry second.entry) }
     ensures lawful { IfOk result IsBlockTable }
-    ensures samples { IfOk result (λ t. All HasSamples t.blocks) }
+    ensures samples { IfOk result (λ t. All HasDcSamples t.blocks) }
 {
     let inputs = inputs_of(source, settings, first, second);
     let rows = rows_of(alloc, &inputs)?;
@@ -232,12 +234,12 @@ pub fn decide_by_workers<R: Threads + Sync>(
     second: Option<RefView<'_>>,
 ) -> Result<BlockData, NoMemory>
     requires settings { IsAccepted settings.now }
-    requires source { deciding.IsOfSamples source.now }
+    requires source { deciding.IsPictureOfSamples source.now }
     requires first { deciding.IsSearched settings.now source.now (view_of first) }
     requires second { ForSome (views_of second) (deciding.IsSearched settings.now source.now) }
     ensures table { IfOk result (λ t. t ≡ decided_from settings.now source.now first.entry second.entry) }
     ensures lawful { IfOk result IsBlockTable }
-    ensures samples { IfOk result (λ t. All HasSamples t.blocks) }
+    ensures samples { IfOk result (λ t. All HasDcSamples t.blocks) }
 {
     let inputs = inputs_of(source, settings, first, second);
     let rows = rows_by_workers(rt, alloc, &inputs, settings.workers)?;

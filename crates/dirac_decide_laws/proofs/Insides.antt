@@ -15,7 +15,7 @@ use Rattle.dirac_search.specs.Candidates.{no_motion}
 use Rattle.dirac_decide.specs.Deciding.{Deciding, IsDeciding, View}
 use Rattle.dirac_decide.specs.Modes.{both_mode, choice_of, dc_mode, first_mode, other_modes, second_mode}
 use Rattle.dirac_decide.specs.Splits.{best_block, best_split, decided, unit_in}
-use Rattle.dirac_decide.specs.Units.{best_inside, best_vector, block_keeps, blocks_of, candidate, inside_to, unit_keeps, vector_cost}
+use Rattle.dirac_decide.specs.Units.{best_inside, best_vector, block_keeps, decided_blocks, candidate, inside_to, unit_keeps, vector_cost}
 use Rattle.dirac_decide.specs.declared.choice.Choice.{Choice}
 use Rattle.dirac_decide.specs.declared.prediction_unit.PredictionUnit.{PredictionUnit}
 use Rattle.dirac_decide.proofs.DcValues.{low_split}
@@ -26,7 +26,7 @@ use Rattle.dirac_decide_laws.proofs.Tables.{block_is}
 
 -- the sizes of the blocks that are decided
 pub record HasBlocks (d : Deciding) : Type 0 where
-  pub blocks : AreBlocks (blocks_of d)
+  pub blocks : AreBlocks (decided_blocks d)
   pub precision : d.precision ≤ 3
 
 -- ---- units
@@ -35,7 +35,7 @@ pub record HasBlocks (d : Deciding) : Type 0 where
 unit_zero : (d : Deciding) (u : PredictionUnit) → HasBlocks d → unit_keeps d u no_motion ≡ true
 unfolding unit_keeps
 unit_zero d u h =
-    all_from (block_keeps d u no_motion) (u.size * u.size) (λ k l. zero_keeps (blocks_of d) d.precision (u.i + k % u.size) (u.j + k / u.size) h.blocks h.precision)
+    all_from (block_keeps d u no_motion) (u.size * u.size) (λ k l. zero_keeps (decided_blocks d) d.precision (u.i + k % u.size) (u.j + k / u.size) h.blocks h.precision)
 
 -- so does the best vector
 best_keeps : (d : Deciding) (r : View) (u : PredictionUnit) → HasBlocks d → (d.alike ≡ 0 → ⊥) → unit_keeps d u (best_vector d r u) ≡ true
@@ -81,14 +81,14 @@ block_of_unit (suc (suc zero)) sx sy i j l a b = record { number = 0; inside = o
 block_of_unit (suc (suc (suc split))) sx sy i j l a b = absurd (omega arith)
 
 -- what keeps inside from all blocks of a unit does from each
-from_block : (d : Deciding) (u : PredictionUnit) (v : Vector) (i j : ℕ) → IsBlockOf u i j → unit_keeps d u v ≡ true → keeps_inside (blocks_of d) d.precision i j v ≡ true
+from_block : (d : Deciding) (u : PredictionUnit) (v : Vector) (i j : ℕ) → IsBlockOf u i j → unit_keeps d u v ≡ true → keeps_inside (decided_blocks d) d.precision i j v ≡ true
 unfolding unit_keeps
 from_block d u v i j is keeps =
-    subst (λ (a : ℕ). keeps_inside (blocks_of d) d.precision a j v ≡ true) is.column
-    (subst (λ (b : ℕ). keeps_inside (blocks_of d) d.precision (u.i + is.number % u.size) b v ≡ true) is.row
+    subst (λ (a : ℕ). keeps_inside (decided_blocks d) d.precision a j v ≡ true) is.column
+    (subst (λ (b : ℕ). keeps_inside (decided_blocks d) d.precision (u.i + is.number % u.size) b v ≡ true) is.row
     (all_tells (block_keeps d u v) (u.size * u.size) keeps is.number is.inside))
 
-block_keeps_inside : (d : Deciding) (sx sy i j : ℕ) → HasBlocks d → (d.alike ≡ 0 → ⊥) → i < 4 → j < 4 → BlockKeepsInside (blocks_of d) d.precision (4 * sx + i) (4 * sy + j) (best_block d sx sy i j)
+block_keeps_inside : (d : Deciding) (sx sy i j : ℕ) → HasBlocks d → (d.alike ≡ 0 → ⊥) → i < 4 → j < 4 → BlockKeepsInside (decided_blocks d) d.precision (4 * sx + i) (4 * sy + j) (best_block d sx sy i j)
 block_keeps_inside d sx sy i j h some a b =
     let split = best_split d sx sy in
     let u = unit_in split sx sy (unit_of split i j) in
@@ -99,7 +99,7 @@ block_keeps_inside d sx sy i j h some a b =
       second = λ e. from_block d u (best_block d sx sy i j).v2 (4 * sx + i) (4 * sy + j) is (has.second e);
     }
 
-pub tables_inside : (d : Deciding) → HasBlocks d → (d.alike ≡ 0 → ⊥) → VectorsKeepInside (blocks_of d) d.precision (decided d)
+pub tables_inside : (d : Deciding) → HasBlocks d → (d.alike ≡ 0 → ⊥) → VectorsKeepInside (decided_blocks d) d.precision (decided d)
 unfolding decided
 tables_inside d h some i j column row =
     let sx = i / 4 in
@@ -108,10 +108,10 @@ tables_inside d h some i j column row =
     let down : 4 * (j / 4) + j % 4 ≡ j = omega arith in
     let small : i % 4 < 4 = omega arith in
     let low : j % 4 < 4 = omega arith in
-    let in_superblock = subst (λ (b : Block). BlockKeepsInside (blocks_of d) d.precision (4 * sx + i % 4) (4 * sy + j % 4) b) (sym (block_is d sx sy (i % 4) (j % 4) (omega arith) (omega arith) small low))
+    let in_superblock = subst (λ (b : Block). BlockKeepsInside (decided_blocks d) d.precision (4 * sx + i % 4) (4 * sy + j % 4) b) (sym (block_is d sx sy (i % 4) (j % 4) (omega arith) (omega arith) small low))
     (block_keeps_inside d sx sy (i % 4) (j % 4) h some small low) in
-    subst (λ (a : ℕ). BlockKeepsInside (blocks_of d) d.precision a j (block_at (decided d) a j)) across
-    (subst (λ (b : ℕ). BlockKeepsInside (blocks_of d) d.precision (4 * sx + i % 4) b (block_at (decided d) (4 * sx + i % 4) b)) down in_superblock)
+    subst (λ (a : ℕ). BlockKeepsInside (decided_blocks d) d.precision a j (block_at (decided d) a j)) across
+    (subst (λ (b : ℕ). BlockKeepsInside (decided_blocks d) d.precision (4 * sx + i % 4) b (block_at (decided d) (4 * sx + i % 4) b)) down in_superblock)
 
 pub tables_keep_inside : TablesKeepInside
 tables_keep_inside d h some = tables_inside d (record { blocks = are_blocks d h; precision = h.precision }) some

@@ -6,7 +6,7 @@ use Rattle.dirac_block_table.specs.Tables.{block_in, grey, split_at, unit_of}
 use Rattle.dirac_search_laws.specs.Least.{IsFirstOfLeastCost}
 use Rattle.dirac_decide.specs.Deciding.{Deciding, View}
 use Rattle.dirac_decide.specs.Modes.{both_mode, choice_of, dc_mode, first_mode, other_modes, second_mode}
-use Rattle.dirac_decide.specs.Splits.{best_block, best_split, block_by_rows, decided, split_cost, split_of, unit_in}
+use Rattle.dirac_decide.specs.Splits.{best_block, best_split, block_by_rows, decided, split_cost, best_split_by_rows, unit_in}
 use Rattle.dirac_decide.specs.Units.{best_vector, vector_cost}
 use Rattle.dirac_decide.specs.declared.choice.Choice.{Choice}
 use Rattle.dirac_decide.specs.declared.prediction_unit.PredictionUnit.{PredictionUnit}
@@ -21,7 +21,7 @@ split_is : (d : Deciding) (sx sy : ℕ) → sx < d.across → sy < d.down → sp
 unfolding decided
 split_is d sx sy a b =
     let inside : sy * d.across + sx < d.down * d.across = omega (arith, row_fits sy d.across d.down d.across b (omega arith)) in
-    get_or-map-range_with_len (split_of d) 0 (d.down * d.across) (sy * d.across + sx) (sy * d.across + sx) 0 inside (omega arith)
+    get_or-map-range_with_len (best_split_by_rows d) 0 (d.down * d.across) (sy * d.across + sx) (sy * d.across + sx) 0 inside (omega arith)
     ∙ ap (λ x. best_split d x ((sy * d.across + sx) / d.across)) (mod-mul-add sy d.across sx a)
     ∙ ap (best_split d sx) (div-mul-add sy d.across sx a)
 

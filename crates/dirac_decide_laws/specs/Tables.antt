@@ -5,7 +5,7 @@ use Rattle.dirac_block_table.specs.Tables.{BlockTable, block_in, split_at, unit_
 use Rattle.dirac_search_laws.specs.Least.{IsFirstOfLeastCost}
 use Rattle.dirac_decide.specs.Deciding.{Deciding, IsDeciding, View}
 use Rattle.dirac_decide.specs.Splits.{decided, split_cost, unit_in}
-use Rattle.dirac_decide.specs.Units.{blocks_of, vector_cost}
+use Rattle.dirac_decide.specs.Units.{decided_blocks, vector_cost}
 use Rattle.dirac_decide.specs.declared.choice.Choice.{Choice}
 use Rattle.dirac_decide.specs.declared.prediction_unit.PredictionUnit.{PredictionUnit}
 use Rattle.dirac_inside_laws.specs.Kept.{VectorsKeepInside}
@@ -44,4 +44,4 @@ TablesAreLeast = (d : Deciding) → IsLeastTable d (decided d)
 -- where streams are to be shown alike, its vectors keep inside
 abbrev pub TablesKeepInside : Type 0
 TablesKeepInside =
-    (d : Deciding) → IsDeciding d → (d.alike ≡ 0 → ⊥) → VectorsKeepInside (blocks_of d) d.precision (decided d)
+    (d : Deciding) → IsDeciding d → (d.alike ≡ 0 → ⊥) → VectorsKeepInside (decided_blocks d) d.precision (decided d)

@@ -12,13 +12,13 @@ use Rattle.dirac_units.specs.declared.unit.StreamEnd.TheVariants as stream_end
 use Rattle.dirac_common.specs.declared.picture.Picture.{Picture}
 use Rattle.dirac_units.specs.Info.{fields_are_read, span_of}
 use Rattle.dirac_units.specs.Cut.{front_of}
-use Rattle.dirac_units.specs.Progress.{Ends, GivesUnit, IsFirstUnit, Progress, kept_payload}
+use Rattle.dirac_units.specs.Progress.{Ends, GivesUnit, IsFirstUnit, CuttingProgress, kept_payload}
 use Rattle.dirac_units.proofs.Fronts.{front_more, front_whole}
 use Rattle.dirac_decode.specs.Stepping.{IsThere, IsWholeUnit}
 use Rattle.dirac_content.specs.StreamState.{StreamState}
 use Rattle.dirac_content.specs.Shown.{ends_with}
 use Rattle.dirac_decode.specs.Decoding.{Decoding, LeadsTo, decoding}
-use Rattle.dirac_decode.specs.Advancing.{Brings, Settles}
+use Rattle.dirac_decode.specs.Advancing.{Brings, SettlesDue}
 use Rattle.dirac_content.proofs.Passing.{told_end}
 use Rattle.dirac_decode.proofs.WholeUnits.{front_before}
 use Rattle.dirac_decode.proofs.Leading.{end_alone, ended_outcome, fault_alone, leads_same, leads_unit, not_ended, not_faulted}
@@ -52,7 +52,7 @@ told_more unit unit_place more None rest is = tt
 told_more unit unit_place more (Some bytes) rest is = first_more unit unit_place bytes more rest is
 
 -- a unit given is given whatever follows the bytes held
-pub unit_more : (unit : Unit) (units units' : Progress) (held held' : Option (List ℕ)) (more : List ℕ) → GivesUnit true unit units units' held held' → GivesUnit true unit units units' (append_known held more) (append_known held' more)
+pub unit_more : (unit : Unit) (units units' : CuttingProgress) (held held' : Option (List ℕ)) (more : List ℕ) → GivesUnit true unit units units' held held' → GivesUnit true unit units units' (append_known held more) (append_known held' more)
 unit_more unit units units' held held' more gives =
     let P : Option (List ℕ) → Option (List ℕ) → Type 0 = λ known rest. IfSome known (λ bytes. IsFirstUnit true unit units.unit_place bytes rest) in
     let told : P (append_known (prepend_known units.ahead held) more) (append_known (prepend_known units'.ahead held') more) =
@@ -74,13 +74,13 @@ end_more unit_place more end None there is = tt
 end_more unit_place more end (Some bytes) there is = front_before unit_place bytes more there ∙ is
 
 -- what stands at the front stays, whatever follows the bytes held
-front_told : (units : Progress) (held : Option (List ℕ)) (more : List ℕ) (end : Option Fault) → IsThere units held → IfSome (prepend_known units.ahead held) (λ bytes. front_of units.unit_place bytes ≡ Err end) → IfSome (prepend_known units.ahead (append_known held more)) (λ bytes. front_of units.unit_place bytes ≡ Err end)
+front_told : (units : CuttingProgress) (held : Option (List ℕ)) (more : List ℕ) (end : Option Fault) → IsThere units held → IfSome (prepend_known units.ahead held) (λ bytes. front_of units.unit_place bytes ≡ Err end) → IfSome (prepend_known units.ahead (append_known held more)) (λ bytes. front_of units.unit_place bytes ≡ Err end)
 front_told units held more end there is =
     subst (λ known. IfSome known (λ bytes. front_of units.unit_place bytes ≡ Err end)) (sym (ahead_more units.ahead more held))
     (end_more units.unit_place more end (prepend_known units.ahead held) there is)
 
 -- the lawful end and a fault of the cutting, whatever follows the bytes held
-pub brings_end_more : (units units' : Progress) (state : StreamState) (held held' : Option (List ℕ)) (more : List ℕ) → units'.ahead ≡ [] → IsThere units held → Ends units held held' None → Brings units units' state state (append_known held more) (append_known held' more) true stream_end.Ended []
+pub brings_end_more : (units units' : CuttingProgress) (state : StreamState) (held held' : Option (List ℕ)) (more : List ℕ) → units'.ahead ≡ [] → IsThere units held → Ends units held held' None → Brings units units' state state (append_known held more) (append_known held' more) true stream_end.Ended []
 brings_end_more units units' state held held' more none there ends given given' = record {
   comes = λ o comes. record {
     rest = ends_with state None;
@@ -92,7 +92,7 @@ brings_end_more units units' state held held' more none there ends given given' 
   alone = end_alone units units' state (append_known held more) (append_known held' more) given given' none (part_taken_more units.ahead more held held' units.unit_place None ends.taken);
 }
 
-pub brings_fault_more : (units units' : Progress) (state : StreamState) (held held' : Option (List ℕ)) (more : List ℕ) (fault : Fault) → units'.ahead ≡ [] → IsThere units held → Ends units held held' (Some fault) → Brings units units' state state (append_known held more) (append_known held' more) true (stream_end.Faulted fault) []
+pub brings_fault_more : (units units' : CuttingProgress) (state : StreamState) (held held' : Option (List ℕ)) (more : List ℕ) (fault : Fault) → units'.ahead ≡ [] → IsThere units held → Ends units held held' (Some fault) → Brings units units' state state (append_known held more) (append_known held' more) true (stream_end.Faulted fault) []
 brings_fault_more units units' state held held' more fault none there ends given given' = record {
   comes = λ o comes. record {
     rest = ends_with state (Some fault);
@@ -105,7 +105,7 @@ brings_fault_more units units' state held held' more fault none there ends given
 }
 
 -- a decoder at which nothing was due took a unit
-pub step_leads : (a : Decoding) (units units' : Progress) (before state state' : StreamState) (draining drains : Bool) (given given' : ℕ) (m m' : StreamEnd) (held held' : Option (List ℕ)) (gone : List Picture) → decoding units before draining given m ≡ a → Settles None before state draining → m ≡ stream_end.Going → Brings units units' state state' held held' drains m' gone → LeadsTo a (decoding units' state' drains given' m') held held' gone
+pub step_leads : (a : Decoding) (units units' : CuttingProgress) (before state state' : StreamState) (draining drains : Bool) (given given' : ℕ) (m m' : StreamEnd) (held held' : Option (List ℕ)) (gone : List Picture) → decoding units before draining given m ≡ a → SettlesDue None before state draining → m ≡ stream_end.Going → Brings units units' state state' held held' drains m' gone → LeadsTo a (decoding units' state' drains given' m') held held' gone
 step_leads a units units' before state state' draining drains given given' m m' held held' gone same none going brings =
     leads_unit a units units' before state state' draining drains given given' m m' held held held' gone
     (leads_same a (decoding units before draining given m) held same) none going brings

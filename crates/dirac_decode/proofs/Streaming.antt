@@ -11,32 +11,32 @@ use Rattle.dirac_units.specs.declared.unit_place.UnitPlace.{UnitPlace}
 use Rattle.dirac_units.specs.declared.unit.StreamEnd.{StreamEnd}
 use Rattle.dirac_units.specs.declared.unit.StreamEnd.TheVariants as stream_end
 use Rattle.dirac_units.specs.Cut.{EachHasACut, IsCut, UnitText}
-use Rattle.dirac_units.specs.Progress.{Progress}
+use Rattle.dirac_units.specs.Progress.{CuttingProgress}
 use Rattle.dirac_decode.specs.declared.answers.Decoded.TheVariants as decoded
 use Rattle.dirac_decode.specs.declared.answers.Next.TheVariants as next
-use Rattle.dirac_content.specs.StreamState.{StreamState, begun as course_begun}
+use Rattle.dirac_content.specs.StreamState.{StreamState, stream_begun}
 use Rattle.dirac_content.specs.Shown.{IsShown, Outcome, Shows, outcome, tally_of, with_front}
-use Rattle.dirac_decode.specs.Decoding.{BreaksIn, BreaksOff, BringsAlone, Comes, ComesIn, Decoding, Gives, LeadsTo, Passed, Remains, RemainsIn, StopsIn, begun, tally}
+use Rattle.dirac_decode.specs.Decoding.{BreaksIn, BreaksOff, BringsAlone, Comes, ComesIn, Decoding, Gives, LeadsTo, Passed, Remains, RemainsIn, StopsIn, decoder_begun, tally}
 use Rattle.dirac_content.specs.Leaving.{IsBrokenOff, IsFrontOfRead, leaving}
 use Rattle.dirac_decode.proofs.Alone.{alone_on}
 use Rattle.dirac_decode.proofs.Passed.{passed_on}
 use Rattle.dirac_content.specs.Raw.{raw, raws}
-use Rattle.dirac_decode.specs.Decoded.{IsDecoded}
+use Rattle.dirac_decode.specs.Decoded.{IsDecodedStream}
 use Rattle.dirac_content.proofs.Raws.{raws_front, raws_more}
 use Rattle.dirac_decode.proofs.Leading.{leads_same}
 
 -- these pictures were given and written
 pub record IsStreamed (d : Decoding) (held held' taken taken' : Option (List ℕ)) : Type 0 where
   pub given : List Picture
-  pub leads : LeadsTo begun d held held' given
+  pub leads : LeadsTo decoder_begun d held held' given
   pub counted : d.given ≡ length given
   pub written : Appends taken taken' (raws given)
 
 -- none was
-pub streamed_none : (d : Decoding) (held taken : Option (List ℕ)) → d ≡ begun → IsStreamed d held held taken taken
+pub streamed_none : (d : Decoding) (held taken : Option (List ℕ)) → d ≡ decoder_begun → IsStreamed d held held taken taken
 streamed_none d held taken same = record {
   given = [];
-  leads = leads_same begun d held same;
+  leads = leads_same decoder_begun d held same;
   counted = ap (λ x. x.given) same;
   written = Appends-nil taken;
 }
@@ -51,19 +51,19 @@ pub streamed_more : (d d' : Decoding) (p : Picture) (held held' held'' taken tak
 streamed_more d d' p held held' held'' taken taken' taken'' so gives written = record {
   given = so.given ++ p ∷ [];
   leads = record {
-    comes = λ o comes. subst (λ (x : Outcome). Comes begun held x) (front_more so.given p o) (so.leads.comes (with_front (p ∷ []) o) (gives.0.comes o comes));
+    comes = λ o comes. subst (λ (x : Outcome). Comes decoder_begun held x) (front_more so.given p o) (so.leads.comes (with_front (p ∷ []) o) (gives.0.comes o comes));
     going = λ e. so.leads.going (gives.0.going e);
     passed = λ e.
-        passed_on (prepend_known begun.units.ahead held) (prepend_known d.units.ahead held') (prepend_known d'.units.ahead held'') begun d d' so.given (p ∷ []) (so.leads.passed (gives.0.going e)) (gives.0.passed e);
+        passed_on (prepend_known decoder_begun.units.ahead held) (prepend_known d.units.ahead held') (prepend_known d'.units.ahead held'') decoder_begun d d' so.given (p ∷ []) (so.leads.passed (gives.0.going e)) (gives.0.passed e);
     alone =
-        alone_on (prepend_known begun.units.ahead held) (prepend_known d.units.ahead held') (prepend_known d'.units.ahead held'') begun d d' so.given (p ∷ []) so.leads.going gives.0.going so.leads.alone gives.0.alone;
+        alone_on (prepend_known decoder_begun.units.ahead held) (prepend_known d.units.ahead held') (prepend_known d'.units.ahead held'') decoder_begun d d' so.given (p ∷ []) so.leads.going gives.0.going so.leads.alone gives.0.alone;
   };
   counted = gives.1 ∙ ap (λ n. n + 1) so.counted ∙ sym (length-append so.given (p ∷ []));
   written = subst (λ (t : List ℕ). Appends taken taken'' t) (sym (raws_more so.given p)) (Appends-trans taken taken' taken'' (raws so.given) (raw p) so.written written);
 }
 
 -- what comes from the start on is what the stream shows
-comes_shown : (bytes : List ℕ) (o : Outcome) → Comes begun (Some bytes) o → IsShown bytes o
+comes_shown : (bytes : List ℕ) (o : Outcome) → Comes decoder_begun (Some bytes) o → IsShown bytes o
 comes_shown bytes o comes = subst (λ (x : Outcome). IsShown bytes x) (sym comes.same) comes.remains
 
 -- what comes behind an end or a fault
@@ -78,7 +78,7 @@ closed_comes d held end none remains = record {
 }
 
 -- what the stream shows, once its end or fault was answered
-ends_shown : (bytes : List ℕ) (given : List Picture) (d d' : Decoding) (held' held'' : Option (List ℕ)) (end : Option Fault) → LeadsTo begun d (Some bytes) held' given → LeadsTo d d' held' held'' [] → d'.due ≡ [] → Remains d'.stream_end d'.state d'.units held'' (closed d'.state.most end) → IsShown bytes (record { shown = given; most = d'.state.most; end = end })
+ends_shown : (bytes : List ℕ) (given : List Picture) (d d' : Decoding) (held' held'' : Option (List ℕ)) (end : Option Fault) → LeadsTo decoder_begun d (Some bytes) held' given → LeadsTo d d' held' held'' [] → d'.due ≡ [] → Remains d'.stream_end d'.state d'.units held'' (closed d'.state.most end) → IsShown bytes (record { shown = given; most = d'.state.most; end = end })
 ends_shown bytes given d d' held' held'' end leads last none remains =
     let make : List Picture → Outcome = λ shown. record { shown = shown; most = d'.state.most; end = end } in
     let o : Outcome = closed d'.state.most end in
@@ -95,7 +95,7 @@ tally_is : (d d' : Decoding) (given : List Picture) (end : Option Fault) → d.g
 tally_is d d' given end counted same = ap (λ n. record { pictures = n; references = d'.state.most }) (same ∙ counted)
 
 -- the stream ended lawfully
-pub streamed_done : (d d' : Decoding) (held held' held'' taken taken' : Option (List ℕ)) → IsStreamed d held held' taken taken' → Gives next.End d d' held' held'' → IfSome held (λ bytes. IsDecoded bytes (decoded.Done (tally d')) taken taken')
+pub streamed_done : (d d' : Decoding) (held held' held'' taken taken' : Option (List ℕ)) → IsStreamed d held held' taken taken' → Gives next.End d d' held' held'' → IfSome held (λ bytes. IsDecodedStream bytes (decoded.Done (tally d')) taken taken')
 streamed_done d d' None held' held'' taken taken' so gives = tt
 streamed_done d d' (Some bytes) held' held'' taken taken' so gives = (
   record { shown = so.given; most = d'.state.most; end = None },
@@ -104,7 +104,7 @@ streamed_done d d' (Some bytes) held' held'' taken taken' so gives = (
 )
 
 -- the stream ended with a fault
-pub streamed_fault : (d d' : Decoding) (fault : Fault) (held held' held'' taken taken' : Option (List ℕ)) → IsStreamed d held held' taken taken' → Gives (next.Fault fault) d d' held' held'' → IfSome held (λ bytes. IsDecoded bytes (decoded.Fault fault (tally d')) taken taken')
+pub streamed_fault : (d d' : Decoding) (fault : Fault) (held held' held'' taken taken' : Option (List ℕ)) → IsStreamed d held held' taken taken' → Gives (next.Fault fault) d d' held' held'' → IfSome held (λ bytes. IsDecodedStream bytes (decoded.Fault fault (tally d')) taken taken')
 streamed_fault d d' fault None held' held'' taken taken' so gives = tt
 streamed_fault d d' fault (Some bytes) held' held'' taken taken' so gives = (
   record { shown = so.given; most = d'.state.most; end = Some fault },
@@ -119,7 +119,7 @@ shows_some c unit_place (Some bytes) cuts =
     (outcome c unit_place cut.0 cut.1, record { units = cut.0; end = cut.1; cut = cut.2; same = refl })
 
 -- something comes from each place of a stream
-remains_some : (m : StreamEnd) (c : StreamState) (units : Progress) (held : Option (List ℕ)) → EachHasACut → (m ≡ stream_end.Stopped → ⊥) → (o : Outcome) × Remains m c units held o
+remains_some : (m : StreamEnd) (c : StreamState) (units : CuttingProgress) (held : Option (List ℕ)) → EachHasACut → (m ≡ stream_end.Stopped → ⊥) → (o : Outcome) × Remains m c units held o
 remains_some stream_end.Going c units held cuts moving = shows_some c units.unit_place (prepend_known units.ahead held) cuts
 remains_some stream_end.Ended c units held cuts moving = (closed c.most None, refl)
 remains_some (stream_end.Faulted fault) c units held cuts moving = (closed c.most (Some fault), refl)
@@ -160,10 +160,10 @@ cut_off_in d d' p (Some bytes) held' held'' taken taken' taken'' cuts moving so 
     )
 
 -- a read failed: just what leaves while the units that were read whole are taken was written
-broken_in : (bytes : List ℕ) (d : Decoding) (given : List Picture) (known held' taken taken' : Option (List ℕ)) → Passed begun d bytes known given → IfSome known (λ rest. BreaksIn d rest held') → Appends taken taken' (raws given) → IsBrokenOff bytes held' taken taken'
+broken_in : (bytes : List ℕ) (d : Decoding) (given : List Picture) (known held' taken taken' : Option (List ℕ)) → Passed decoder_begun d bytes known given → IfSome known (λ rest. BreaksIn d rest held') → Appends taken taken' (raws given) → IsBrokenOff bytes held' taken taken'
 broken_in bytes d given known held' taken taken' p breaks written =
     let b : BreaksIn d p.rest held' = subst (λ (k : Option (List ℕ)). IfSome k (λ rest. BreaksIn d rest held')) p.holds breaks in
-    let all : leaving course_begun (p.units ++ b.units) ≡ given =
+    let all : leaving stream_begun (p.units ++ b.units) ≡ given =
     p.leaves b.units ∙ ap (λ l. given ++ l) b.none_due ∙ append-nil given in
     record {
       read = p.read ++ b.read;
@@ -201,11 +201,11 @@ left_behind : (bytes part : List ℕ) (held' : Option (List ℕ)) → Consumes (
 left_behind bytes part None is = absurd is
 left_behind bytes part (Some rest) is = (rest, refl, is)
 
-shown_of_read : (bytes : List ℕ) (d : Decoding) (given : List Picture) (known held' taken taken' : Option (List ℕ)) (part : List ℕ) → EachHasACut → (d.stream_end ≡ stream_end.Stopped → ⊥) → BringsAlone begun d bytes known given → Consumes known held' part
+shown_of_read : (bytes : List ℕ) (d : Decoding) (given : List Picture) (known held' taken taken' : Option (List ℕ)) (part : List ℕ) → EachHasACut → (d.stream_end ≡ stream_end.Stopped → ⊥) → BringsAlone decoder_begun d bytes known given → Consumes known held' part
     → ((d.stream_end ≡ stream_end.Going → ⊥) → part ≡ []) → ((more : List Picture) → AppendsFront taken taken' (raws (given ++ more))) → IsFrontOfRead bytes held' taken taken'
 shown_of_read bytes d given known held' taken taken' part cuts moving p takes still front =
     let later : (o : Outcome) × ComesIn d part o = comes_in_some d part cuts moving in
-    let comes : ComesIn begun (p.read ++ part) (with_front given later.0) = p.alone part still later.0 later.1 in
+    let comes : ComesIn decoder_begun (p.read ++ part) (with_front given later.0) = p.alone part still later.0 later.1 in
     let left = left_behind p.rest part held' (subst (λ (k : Option (List ℕ)). Consumes k held' part) p.holds takes) in
     record {
       read = p.read ++ part;
@@ -217,7 +217,7 @@ shown_of_read bytes d given known held' taken taken' part cuts moving p takes st
       delivered = front later.0.shown;
     }
 
-of_read : (d : Decoding) (given : List Picture) (held known held' taken taken' : Option (List ℕ)) (part : List ℕ) → EachHasACut → (d.stream_end ≡ stream_end.Stopped → ⊥) → IfSome (prepend_known begun.units.ahead held) (λ bytes. BringsAlone begun d bytes known given) → Consumes known held' part
+of_read : (d : Decoding) (given : List Picture) (held known held' taken taken' : Option (List ℕ)) (part : List ℕ) → EachHasACut → (d.stream_end ≡ stream_end.Stopped → ⊥) → IfSome (prepend_known decoder_begun.units.ahead held) (λ bytes. BringsAlone decoder_begun d bytes known given) → Consumes known held' part
     → ((d.stream_end ≡ stream_end.Going → ⊥) → part ≡ []) → ((more : List Picture) → AppendsFront taken taken' (raws (given ++ more))) → IfSome held (λ bytes. IsFrontOfRead bytes held' taken taken')
 of_read d given None known held' taken taken' part cuts moving alone takes still front = tt
 of_read d given (Some bytes) known held' taken taken' part cuts moving alone takes still front =
@@ -244,7 +244,7 @@ pub read_in : (d d' : Decoding) (p : Picture) (held held' held'' taken taken' ta
     → IfSome held (λ bytes. IsFrontOfRead bytes held'' taken taken'')
 read_in d d' p held held' held'' taken taken' taken'' cuts moving none so gives front =
     of_read d' (so.given ++ p ∷ []) held (prepend_known d'.units.ahead held'') held'' taken taken'' [] cuts (λ e. moving (gives.2 e))
-    (alone_on (prepend_known begun.units.ahead held) (prepend_known d.units.ahead held') (prepend_known d'.units.ahead held'') begun d d' so.given (p ∷ []) so.leads.going gives.0.going so.leads.alone gives.0.alone)
+    (alone_on (prepend_known decoder_begun.units.ahead held) (prepend_known d.units.ahead held') (prepend_known d'.units.ahead held'') decoder_begun d d' so.given (p ∷ []) so.leads.going gives.0.going so.leads.alone gives.0.alone)
     (none_taken d'.units.ahead held'' none) (λ ne. refl) (written_in so.given p taken taken' taken'' so.written front)
 
 -- at the end or a fault
@@ -252,7 +252,7 @@ pub read_out : (d d' : Decoding) (held held' held'' taken taken' : Option (List 
     → IfSome held (λ bytes. IsFrontOfRead bytes held'' taken taken')
 read_out d d' held held' held'' taken taken' cuts moving none so last =
     of_read d' (so.given ++ []) held (prepend_known d'.units.ahead held'') held'' taken taken' [] cuts moving
-    (alone_on (prepend_known begun.units.ahead held) (prepend_known d.units.ahead held') (prepend_known d'.units.ahead held'') begun d d' so.given [] so.leads.going last.going so.leads.alone last.alone)
+    (alone_on (prepend_known decoder_begun.units.ahead held) (prepend_known d.units.ahead held') (prepend_known d'.units.ahead held'') decoder_begun d d' so.given [] so.leads.going last.going so.leads.alone last.alone)
     (none_taken d'.units.ahead held'' none) (λ ne. refl) (written_front (so.given ++ []) taken taken' (subst (λ (ps : List Picture). Appends taken taken' (raws ps)) (sym (append-nil so.given)) so.written))
 
 pub not_stopped_by_end : (m : StreamEnd) → m ≡ stream_end.Ended → m ≡ stream_end.Stopped → ⊥

@@ -9,18 +9,18 @@ use Rattle.dirac_content.specs.Raw.{raws}
 use Rattle.dirac_content.specs.Shown.{Outcome, IsShown, tally_of}
 
 -- what the answer says of what the stream shows and of what was written
-abbrev pub AnswersDecode : Decoded → Outcome → Option (List ℕ) → Option (List ℕ) → Type 0
-AnswersDecode (decoded.Done tally) o taken taken' =
+abbrev pub AnswersDecodedStream : Decoded → Outcome → Option (List ℕ) → Option (List ℕ) → Type 0
+AnswersDecodedStream (decoded.Done tally) o taken taken' =
     (o.end ≡ None) × (tally ≡ tally_of o) × Appends taken taken' (raws o.shown)
-AnswersDecode (decoded.Fault fault tally) o taken taken' =
+AnswersDecodedStream (decoded.Fault fault tally) o taken taken' =
     (o.end ≡ Some fault) × (tally ≡ tally_of o) × Appends taken taken' (raws o.shown)
-AnswersDecode decoded.ReadFault o taken taken' = AppendsFront taken taken' (raws o.shown)
-AnswersDecode decoded.WriteFault o taken taken' = AppendsFront taken taken' (raws o.shown)
-AnswersDecode decoded.NoMemory o taken taken' = AppendsFront taken taken' (raws o.shown)
+AnswersDecodedStream decoded.ReadFault o taken taken' = AppendsFront taken taken' (raws o.shown)
+AnswersDecodedStream decoded.WriteFault o taken taken' = AppendsFront taken taken' (raws o.shown)
+AnswersDecodedStream decoded.NoMemory o taken taken' = AppendsFront taken taken' (raws o.shown)
 
 -- the answer and what was written are those of what these bytes show
-abbrev pub IsDecoded : List ℕ → Decoded → Option (List ℕ) → Option (List ℕ) → Type 0
-IsDecoded bytes answer taken taken' = (o : Outcome) × IsShown bytes o × AnswersDecode answer o taken taken'
+abbrev pub IsDecodedStream : List ℕ → Decoded → Option (List ℕ) → Option (List ℕ) → Type 0
+IsDecodedStream bytes answer taken taken' = (o : Outcome) × IsShown bytes o × AnswersDecodedStream answer o taken taken'
 
 -- a fact, where the stream was decoded to its lawful end
 abbrev pub IfDone : Decoded → Type 0 → Type 0

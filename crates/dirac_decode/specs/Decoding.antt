@@ -7,27 +7,28 @@ use Rattle.dirac_units.specs.declared.unit.StreamEnd.{StreamEnd}
 use Rattle.dirac_units.specs.declared.unit.StreamEnd.TheVariants as stream_end
 use Rattle.dirac_units.specs.Cut.{IsCut, UnitText}
 use Rattle.dirac_units.specs.declared.unit_place.UnitPlace.{UnitPlace}
-use Rattle.dirac_units.specs.Progress.{Progress, TakesSome, begun as units_begun}
+use Rattle.dirac_units.specs.Progress.{CuttingProgress, TakesSome, cutting_begun}
 use Rattle.dirac_refs.specs.Delivery.{flushed}
 use Rattle.dirac_decode.specs.declared.answers.Next.{Next}
 use Rattle.dirac_decode.specs.declared.answers.Next.TheVariants as next
 use Rattle.dirac_content.specs.declared.tally.Tally.{Tally}
-use Rattle.dirac_content.specs.StreamState.{StreamState, begun as course_begun}
+use Rattle.dirac_content.specs.StreamState.{StreamState, stream_begun}
 use Rattle.dirac_content.specs.Shown.{Outcome, Shows, accepted, with_front}
 use Rattle.dirac_content.specs.Leaving.{leaving}
 
 -- the units cut so far, the course of their content, pictures that leave before the next unit is read,
 -- how many were given, and the end, fault or stop that was met
 pub record Decoding : Type 0 where
-  pub units : Progress
+  pub units : CuttingProgress
   pub state : StreamState
   pub due : List Picture
   pub given : ℕ
   pub stream_end : StreamEnd
 
 -- before the first unit
-abbrev pub begun : Decoding
-begun = record { units = units_begun; state = course_begun; due = []; given = 0; stream_end = stream_end.Going }
+abbrev pub decoder_begun : Decoding
+decoder_begun =
+    record { units = cutting_begun; state = stream_begun; due = []; given = 0; stream_end = stream_end.Going }
 
 -- no picture waits
 abbrev pub emptied : StreamState → StreamState
@@ -38,7 +39,7 @@ abbrev pub due_of : Bool → StreamState → List Picture
 due_of draining state = if draining then flushed state.waiting else []
 
 -- a decoder by its parts
-abbrev pub decoding : Progress → StreamState → Bool → ℕ → StreamEnd → Decoding
+abbrev pub decoding : CuttingProgress → StreamState → Bool → ℕ → StreamEnd → Decoding
 decoding units state draining given stream_end = record {
   units = units;
   state = if draining then emptied state else state;
@@ -48,7 +49,7 @@ decoding units state draining given stream_end = record {
 }
 
 -- what comes behind the due pictures: the rest of the stream, or what was met
-abbrev pub Remains : StreamEnd → StreamState → Progress → Option (List ℕ) → Outcome → Type 0
+abbrev pub Remains : StreamEnd → StreamState → CuttingProgress → Option (List ℕ) → Outcome → Type 0
 Remains stream_end.Going state units held o =
     IfSome (prepend_known units.ahead held) (λ bytes. Shows state units.unit_place bytes o)
 Remains stream_end.Ended state units held o = o ≡ record { shown = []; most = state.most; end = None }
@@ -153,11 +154,11 @@ Gives next.NoMemory old new held held' = (new.stream_end ≡ stream_end.Stopped)
 Gives next.Stopped old new held held' = (old.stream_end ≡ stream_end.Stopped) × (new ≡ old)
 
 -- an end or a fault is answered again once nothing is due, and a stop at once
-abbrev pub Answers : StreamEnd → List Picture → Next → Type 0
-Answers stream_end.Going due answer = ⊤
-Answers stream_end.Ended due answer = due ≡ [] → answer ≡ next.End
-Answers (stream_end.Faulted fault) due answer = due ≡ [] → answer ≡ next.Fault fault
-Answers stream_end.Stopped due answer = answer ≡ next.Stopped
+abbrev pub AnswersWhatWasMet : StreamEnd → List Picture → Next → Type 0
+AnswersWhatWasMet stream_end.Going due answer = ⊤
+AnswersWhatWasMet stream_end.Ended due answer = due ≡ [] → answer ≡ next.End
+AnswersWhatWasMet (stream_end.Faulted fault) due answer = due ≡ [] → answer ≡ next.Fault fault
+AnswersWhatWasMet stream_end.Stopped due answer = answer ≡ next.Stopped
 
 -- the number of pictures given, and the greatest length of a reference list
 abbrev pub tally : Decoding → Tally

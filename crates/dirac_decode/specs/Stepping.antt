@@ -12,7 +12,7 @@ use Rattle.dirac_units.specs.declared.unit.StreamEnd.TheVariants as stream_end
 use Rattle.dirac_units.specs.declared.unit_place.UnitPlace.{UnitPlace}
 use Rattle.dirac_units.specs.Cut.{UnitText, after, fault_at, front_of}
 use Rattle.dirac_units.specs.Info.{info_read, span_of}
-use Rattle.dirac_units.specs.Progress.{Progress}
+use Rattle.dirac_units.specs.Progress.{CuttingProgress}
 use Rattle.dirac_refs.specs.Delivery.{flushed}
 use Rattle.dirac_decode.specs.declared.answers.Next.{Next}
 use Rattle.dirac_decode.specs.declared.answers.Next.TheVariants as next
@@ -26,7 +26,7 @@ pub record IsWholeUnit (bytes : List ℕ) : Type 0 where
   pub payload : IfOk (info_read (take 13 bytes)) (λ (info : ParseInfo). span_of info ≤ length bytes)
 
 -- the next unit of a decoder is there, whatever follows the bytes that its source holds
-abbrev pub IsThere : Progress → Option (List ℕ) → Type 0
+abbrev pub IsThere : CuttingProgress → Option (List ℕ) → Type 0
 IsThere units held = IfSome (prepend_known units.ahead held) IsWholeUnit
 
 -- a unit was taken, or nothing is taken any more
@@ -51,7 +51,7 @@ IsAtFront unit unit_place bytes =
     (front_of unit_place bytes ≡ Ok unit.info) × (unit.payload ≡ slice_range bytes 13 (span_of unit.info))
 
 -- the unit at the front of these bytes was taken, and just what follows it is held: its content brought this
-pub record TakesUnit (unit_place unit_place' : UnitPlace) (state : StreamState) (made : StreamStep) (bytes : List ℕ)
+pub record StepTakesUnit (unit_place unit_place' : UnitPlace) (state : StreamState) (made : StreamStep) (bytes : List ℕ)
     (known : Option (List ℕ)) : Type 0 where
   pub unit : UnitText
   pub front : IsAtFront unit unit_place bytes
@@ -90,7 +90,8 @@ DrainsAll old new = (new.state ≡ emptied old.state) × (new.due ≡ flushed ol
 -- stands next; or it was stopped, and the course stays
 abbrev pub TakesAs : StreamEnd → Option Next → Decoding → Decoding → Option (List ℕ) → Option (List ℕ) → Type 0
 TakesAs stream_end.Going answer old new held held' =
-    IfSome (prepend_known old.units.ahead held) (λ bytes. TakesUnit old.units.unit_place new.units.unit_place old.state
+    IfSome (prepend_known old.units.ahead held)
+    (λ bytes. StepTakesUnit old.units.unit_place new.units.unit_place old.state
     (record { state = new.state; gone = given_by answer ++ new.due }) bytes (prepend_known new.units.ahead held'))
 TakesAs stream_end.Ended answer old new held held' =
     DrainsAll old new
@@ -113,6 +114,6 @@ DueGives (Some p) old new =
 DueGives None old new = (old.due ≡ []) × (new ≡ old)
 
 -- the open sequence
-abbrev pub sequence_of : Option Opened → Option Sequence
-sequence_of None = None
-sequence_of (Some o) = Some o.sequence
+abbrev pub opened_sequence : Option Opened → Option Sequence
+opened_sequence None = None
+opened_sequence (Some o) = Some o.sequence

@@ -6,7 +6,8 @@ ghost use Rattle.dirac_units.specs.Progress.{TakesPart, TakesSome};
 ghost use Rattle.dirac_refs.specs.Delivery.{flushed};
 ghost use Rattle.dirac_picture.specs.Reading.{ReadsPlanes};
 ghost use Rattle.dirac_decode.specs.Decoding.{due_of};
-ghost use Rattle.dirac_decode.specs.Advancing.{Advances, AdvancesBefore, GoesOn, IsSettled, Settles, shown_by, TakesBy};
+ghost use Rattle.dirac_decode.specs.Advancing.{Advances, AdvancesBefore, GoesOn, IsSettled, SettlesDue, count_shown};
+ghost use Rattle.dirac_decode.specs.Advancing.{TakesBy};
 ghost use Rattle.dirac_rebuild.specs.Rebuilding.{Rebuilds};
 
 use crate::state::State;
@@ -44,7 +45,7 @@ pub(crate) fn advance_by_unit<
     ensures takes { TakesBy result units.old units.new state.old state.new (S.held source.old) (S.held source.new) }
     ensures none_ahead { units.new.ahead ≡ [] }
     ensures goes_on { GoesOn result units.old units.new }
-    ensures no_more_than_units { units.old.unit_place.index + shown_by result + length state.new.waiting
+    ensures no_more_than_units { units.old.unit_place.index + count_shown result + length state.new.waiting
         ≤ units.new.unit_place.index + length state.old.waiting }
     ensures fits { units.new.unit_place.index < 2 ^ 64 }
     ensures greatest_never_falls { state.old.most ≤ state.new.most }
@@ -77,7 +78,7 @@ pub(crate) fn advance_by_unit<
 
 /// The next picture that is due, where the decoder drains and one waits.
 pub(crate) fn next_due(state: &mut State, draining: bool) -> Option<Picture>
-    ensures settles { Settles result state.old state.new draining }
+    ensures settles { SettlesDue result state.old state.new draining }
     ensures settled { IsSettled result state.old state.new draining }
     ensures due { IfSome result (λ p. due_of draining state.old ≡ p ∷ flushed state.new.waiting) }
     ensures fewer { length state.new.waiting + length (option_to_list result) ≤ length state.old.waiting }

@@ -2,7 +2,7 @@ ghost use Rattle.std.specs.Prelude.{◌≡◌, ℕ, ◌+◌, ◌<◌, ◌≤◌,
 ghost use Rattle.std.specs.Io.KnownBytes.{IsAtEnd};
 ghost use Rattle.dirac_io.specs.Faults.{Rose};
 ghost use Rattle.dirac_picture.specs.Reading.{ReadsPlanes};
-ghost use Rattle.dirac_decode.specs.Decoding.{begun, tally, Answers, BreaksOff, Gives, StopsIn};
+ghost use Rattle.dirac_decode.specs.Decoding.{decoder_begun, tally, AnswersWhatWasMet, BreaksOff, Gives, StopsIn};
 ghost use Rattle.dirac_rebuild.specs.Rebuilding.{Rebuilds};
 
 mod stepping;
@@ -51,7 +51,7 @@ impl Model for Decoder {
 impl Decoder {
     /// A decoder before the first unit.
     pub fn new(alloc: Global) -> Decoder
-        ensures { result ≡ begun }
+        ensures { result ≡ decoder_begun }
     {
         Decoder {
             alloc,
@@ -65,7 +65,7 @@ impl Decoder {
 
     /// A decoder before the first unit that keeps half samples of references, for `rebuild`.
     pub(crate) fn keeping(alloc: Global) -> Decoder
-        ensures { result ≡ begun }
+        ensures { result ≡ decoder_begun }
     {
         let mut decoder = Decoder::new(alloc);
         decoder.state.keep_halves();
@@ -89,7 +89,7 @@ impl Decoder {
     pub fn next_picture<S: Source>(&mut self, source: &mut S) -> Next
         requires { self.old.units.unit_place.at + length self.old.units.ahead + S.left source.old < 2 ^ 63 }
         ensures gives { Gives result self.old self.new (S.held source.old) (S.held source.new) }
-        ensures repeated { Answers self.old.stream_end self.old.due result }
+        ensures repeated { AnswersWhatWasMet self.old.stream_end self.old.due result }
         ensures repeats_without_reading { (self.old.stream_end ≡ StreamEnd.Going → ⊥) → source.new ≡ source.old }
         ensures whole { (self.old.stream_end ≡ StreamEnd.Ended → IsAtEnd (S.held source.old)) → self.new.stream_end
             ≡ StreamEnd.Ended → IsAtEnd (S.held source.new) }
@@ -121,7 +121,7 @@ impl Decoder {
         requires rebuilds { Rebuilds (F.pre make.now) (F.post make.now) }
         requires no_overflow { self.old.units.unit_place.at + length self.old.units.ahead + S.left source.old < 2 ^ 63 }
         ensures gives { Gives result self.old self.new (S.held source.old) (S.held source.new) }
-        ensures repeated { Answers self.old.stream_end self.old.due result }
+        ensures repeated { AnswersWhatWasMet self.old.stream_end self.old.due result }
         ensures repeats_without_reading { (self.old.stream_end ≡ StreamEnd.Going → ⊥) → source.new ≡ source.old }
         ensures whole { (self.old.stream_end ≡ StreamEnd.Ended → IsAtEnd (S.held source.old)) → self.new.stream_end
             ≡ StreamEnd.Ended → IsAtEnd (S.held source.new) }

@@ -2,9 +2,10 @@ ghost use Rattle.std.specs.Prelude.{◌≡◌, ℕ, ◌+◌, ◌<◌, ◌≤◌,
 ghost use Rattle.dirac_picture.specs.Grammar.{is_picture};
 ghost use Rattle.dirac_picture.specs.Reading.{ReadsPlanes};
 ghost use Rattle.dirac_rebuild.specs.Rebuilding.{Rebuilds};
-ghost use Rattle.dirac_content.specs.StreamState.{as_reference, begun, header_step, in_unit, is_same as same_header};
+ghost use Rattle.dirac_content.specs.StreamState.{as_reference, stream_begun, header_step, in_unit};
+ghost use Rattle.dirac_content.specs.StreamState.{is_same as same_header};
 ghost use Rattle.dirac_content.specs.StreamState.{first_or as first_of, unit_step, passed, picture_step, shows};
-ghost use Rattle.dirac_decode.specs.Stepping.{sequence_of};
+ghost use Rattle.dirac_decode.specs.Stepping.{opened_sequence};
 ghost use Rattle.dirac_decode.specs.Taking.{Fewer, IfStopped, IsOfOpen, IsPopped, IsTook, Steps};
 
 use crate::made::{Rebuilt, make_picture};
@@ -53,7 +54,7 @@ impl Model for State {
 impl State {
     /// Before the first unit.
     pub(crate) fn new() -> State
-        ensures { result ≡ begun }
+        ensures { result ≡ stream_begun }
     {
         State {
             opened: None,
@@ -82,7 +83,7 @@ impl State {
 
     /// The open sequence.
     pub(crate) fn sequence(&self) -> Option<Sequence>
-        ensures { result ≡ sequence_of self.now.opened }
+        ensures { result ≡ opened_sequence self.now.opened }
     {
         match &self.opened {
             None => None,

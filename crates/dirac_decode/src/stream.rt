@@ -2,8 +2,8 @@ ghost use Rattle.std.specs.Prelude.{◌≡◌, ◌≤◌, IfSome};
 ghost use Rattle.std.specs.Io.KnownBytes.{IsAtEnd};
 ghost use Rattle.dirac_io.specs.Faults.{Rose};
 ghost use Rattle.dirac_picture.specs.Reading.{ReadsPlanes};
-ghost use Rattle.dirac_decode.specs.Decoding.{begun};
-ghost use Rattle.dirac_decode.specs.Decoded.{IfDone, IfTally, IsDecoded};
+ghost use Rattle.dirac_decode.specs.Decoding.{decoder_begun};
+ghost use Rattle.dirac_decode.specs.Decoded.{IfDone, IfTally, IsDecodedStream};
 ghost use Rattle.dirac_content.specs.Leaving.{IsBrokenOff, IsFrontOfRead};
 ghost use Rattle.dirac_rebuild.specs.Rebuilding.{Rebuilds};
 
@@ -22,7 +22,8 @@ use std::alloc::Global;
 
 /// Decodes a whole stream, and writes its pictures as raw pictures in order of delivery, up to the first fault.
 pub fn decode_stream<S: Source, K: Sink>(alloc: Global, source: &mut S, out: &mut K) -> Decoded
-    ensures decoded { IfSome (S.held source.old) (λ bytes. IsDecoded bytes result (K.taken out.old) (K.taken out.new)) }
+    ensures decoded { IfSome (S.held source.old)
+        (λ bytes. IsDecodedStream bytes result (K.taken out.old) (K.taken out.new)) }
     // Where a read failed, just what leaves while the units that were read whole are taken was written.
     ensures broken_off { result ≡ Decoded.ReadFault → IfSome (S.held source.old) (λ bytes. IsBrokenOff bytes
         (S.held source.new) (K.taken out.old) (K.taken out.new)) }
@@ -58,7 +59,8 @@ pub fn decode_stream_by<
 >(planes: &P, make: &F, alloc: Global, source: &mut S, out: &mut K) -> Decoded
     requires reads { ReadsPlanes (P.pre planes.now) (P.post planes.now) }
     requires rebuilds { Rebuilds (F.pre make.now) (F.post make.now) }
-    ensures decoded { IfSome (S.held source.old) (λ bytes. IsDecoded bytes result (K.taken out.old) (K.taken out.new)) }
+    ensures decoded { IfSome (S.held source.old)
+        (λ bytes. IsDecodedStream bytes result (K.taken out.old) (K.taken out.new)) }
     // Where a read failed, just what leaves while the units that were read whole are taken was written.
     ensures broken_off { result ≡ Decoded.ReadFault → IfSome (S.held source.old) (λ bytes. IsBrokenOff bytes
         (S.held source.new) (K.taken out.old) (K.taken out.new)) }
@@ -93,8 +95,9 @@ fn write_pictures<
 ) -> Decoded
     requires reads { ReadsPlanes (P.pre planes.now) (P.post planes.now) }
     requires rebuilds { Rebuilds (F.pre make.now) (F.post make.now) }
-    requires new { decoder.old ≡ begun }
-    ensures decoded { IfSome (S.held source.old) (λ bytes. IsDecoded bytes result (K.taken out.old) (K.taken out.new)) }
+    requires new { decoder.old ≡ decoder_begun }
+    ensures decoded { IfSome (S.held source.old)
+        (λ bytes. IsDecodedStream bytes result (K.taken out.old) (K.taken out.new)) }
     // Where a read failed, just what leaves while the units that were read whole are taken was written.
     ensures broken_off { result ≡ Decoded.ReadFault → IfSome (S.held source.old) (λ bytes. IsBrokenOff bytes
         (S.held source.new) (K.taken out.old) (K.taken out.new)) }

@@ -5,20 +5,20 @@ use Rattle.dirac_encode_laws.specs.Stream.{end_unit}
 use Rattle.dirac_edit_laws.specs.Texts.{PictureText, SequenceText}
 use Rattle.dirac_edit.specs.declared.joining.Merge.{Merge}
 use Rattle.dirac_edit.specs.declared.keys.Keys.{Keys}
-use Rattle.dirac_edit.specs.Merged.{Added, Latest, Progress, added, added_behind, behind, keys_among, length_behind, may_follow, moved_on, onto, own, shift_onto, units_behind, way_onto}
+use Rattle.dirac_edit.specs.Merged.{Added, Latest, WritingProgress, added, added_behind, progress_behind, keys_among, length_behind, may_follow, moved_on, onto, own_sequence, shift_onto, units_behind, way_onto}
 
 -- how far the writing is, by its parts
-pub latest_is : (p : Progress) (o o' : Option Latest) → o' ≡ p.latest → o ≡ o' → p.latest ≡ o
+pub latest_is : (p : WritingProgress) (o o' : Option Latest) → o' ≡ p.latest → o ≡ o' → p.latest ≡ o
 latest_is p o o' same is = sym same ∙ sym is
 
-pub own_added : (p : Progress) (s : SequenceText) → p.latest ≡ None → added p s ≡ own [] p.previous s (keys_among s.pictures)
+pub own_added : (p : WritingProgress) (s : SequenceText) → p.latest ≡ None → added p s ≡ own_sequence [] p.previous s (keys_among s.pictures)
 own_added p s is = ap (λ (o : Option Latest). added_behind o p.previous s (keys_among s.pictures)) is
 
-pub onto_added : (p : Progress) (l : Latest) (s : SequenceText) → p.latest ≡ Some l → may_follow l s.header (keys_among s.pictures) ≡ true → added p s ≡ onto l p.previous s (keys_among s.pictures)
+pub onto_added : (p : WritingProgress) (l : Latest) (s : SequenceText) → p.latest ≡ Some l → may_follow l s.header (keys_among s.pictures) ≡ true → added p s ≡ onto l p.previous s (keys_among s.pictures)
 onto_added p l s is may =
     ap (λ (o : Option Latest). added_behind o p.previous s (keys_among s.pictures)) is ∙ cond-true (may_follow l s.header (keys_among s.pictures)) _ _ may
 
-pub apart_added : (p : Progress) (l : Latest) (s : SequenceText) → p.latest ≡ Some l → may_follow l s.header (keys_among s.pictures) ≡ false → added p s ≡ own (end_unit p.previous) 13 s (keys_among s.pictures)
+pub apart_added : (p : WritingProgress) (l : Latest) (s : SequenceText) → p.latest ≡ Some l → may_follow l s.header (keys_among s.pictures) ≡ false → added p s ≡ own_sequence (end_unit p.previous) 13 s (keys_among s.pictures)
 apart_added p l s is may =
     ap (λ (o : Option Latest). added_behind o p.previous s (keys_among s.pictures)) is ∙ cond-false (may_follow l s.header (keys_among s.pictures)) _ _ may
 
@@ -50,10 +50,10 @@ onto_length l k k' m previous previous' ps ps' keys so lengths pictures =
     ∙ ap₂ (λ (n : ℕ) (qs : List PictureText). length_behind n (map (moved_on (way_onto l k')) qs)) lengths pictures
 
 -- how far the writing is behind it
-pub behind_is : (p : Progress) (s : SequenceText) (a : Added) (l : Latest) (n : ℕ) → added p s ≡ a → l ≡ a.latest → n ≡ a.previous → ◌≡◌ {A = Progress} (record { latest = Some l; previous = n }) (behind p s)
+pub behind_is : (p : WritingProgress) (s : SequenceText) (a : Added) (l : Latest) (n : ℕ) → added p s ≡ a → l ≡ a.latest → n ≡ a.previous → ◌≡◌ {A = WritingProgress} (record { latest = Some l; previous = n }) (progress_behind p s)
 behind_is p s a l n is last length =
-    ap₂ (λ (x : Latest) (m : ℕ). let q : Progress = record { latest = Some x; previous = m } in q) last length
-    ∙ sym (ap (λ (x : Added). let q : Progress = record { latest = Some x.latest; previous = x.previous } in q) is)
+    ap₂ (λ (x : Latest) (m : ℕ). let q : WritingProgress = record { latest = Some x; previous = m } in q) last length
+    ∙ sym (ap (λ (x : Added). let q : WritingProgress = record { latest = Some x.latest; previous = x.previous } in q) is)
 
-pub bytes_are : (p : Progress) (s : SequenceText) (a : Added) (bytes : List ℕ) → added p s ≡ a → bytes ≡ a.bytes → bytes ≡ (added p s).bytes
+pub bytes_are : (p : WritingProgress) (s : SequenceText) (a : Added) (bytes : List ℕ) → added p s ≡ a → bytes ≡ a.bytes → bytes ≡ (added p s).bytes
 bytes_are p s a bytes is same = same ∙ sym (ap (λ (x : Added). x.bytes) is)

@@ -6,23 +6,23 @@ use Rattle.std.proofs.KnownBytes.{Keeps-refl}
 use Rattle.dirac_io.specs.declared.sink.Unwritten.{Unwritten}
 use Rattle.dirac_io.specs.declared.sink.Unwritten.TheVariants as unwritten
 use Rattle.dirac_io.specs.Writing.{AppendsFront}
-use Rattle.dirac_units.specs.Cut.{EachHasACut, start}
-use Rattle.dirac_content.specs.StreamState.{begun}
+use Rattle.dirac_units.specs.Cut.{EachHasACut, first_unit_place}
+use Rattle.dirac_content.specs.StreamState.{stream_begun}
 use Rattle.dirac_content.specs.Shown.{IsShown, Outcome, outcome}
 use Rattle.dirac_edit_laws.specs.Cut.{cut_bytes, end_point}
 use Rattle.dirac_edit_laws.specs.Texts.{SequenceText, points_of, with_pictures}
 use Rattle.dirac_edit_laws.specs.Units.{sequences_bytes}
 use Rattle.dirac_edit.specs.declared.answers.Edited.{Edited}
 use Rattle.dirac_edit.specs.declared.answers.Edited.TheVariants as edited
-use Rattle.dirac_edit.specs.Edits.{AnswersEdit, IsCutBy, ShowsPart, cut_refusal, unless_refused}
-use Rattle.dirac_edit.specs.Steps.{IsPart, RefusesCut, StopsReading, ended_as}
+use Rattle.dirac_edit.specs.Edits.{AnswersEdit, IsCutBy, ShowsPart, cut_refusal, written_unless_refused}
+use Rattle.dirac_edit.specs.Steps.{IsCutPart, RefusesCut, StopsReading, ended_as}
 use Rattle.dirac_content.proofs.Rows.{nothing_yet}
 
 -- something is shown by all bytes
 pub some_shown : EachHasACut → (bytes : List ℕ) → (o : Outcome) × IsShown bytes o
 some_shown each bytes =
-    let cut = each start bytes in
-    (outcome begun start cut.0 cut.1, record { units = cut.0; end = cut.1; cut = cut.2; same = refl })
+    let cut = each first_unit_place bytes in
+    (outcome stream_begun first_unit_place cut.0 cut.1, record { units = cut.0; end = cut.1; cut = cut.2; same = refl })
 
 -- the reading stopped
 pub stopped_by : (answer : Edited) (refusal : Option Edited) (bytes : List ℕ) (out : Option (List ℕ)) → StopsReading answer → AnswersEdit answer refusal bytes out out
@@ -32,7 +32,7 @@ stopped_by (edited.NoSuchPoint n) refusal bytes out stops = absurd stops
 stopped_by (edited.OpenCut n) refusal bytes out stops = absurd stops
 stopped_by edited.ReadFault refusal bytes out stops = Keeps-refl out
 stopped_by edited.WriteFault refusal bytes out stops = absurd stops
-stopped_by edited.NoMemory refusal bytes out stops = nothing_yet out (unless_refused refusal bytes)
+stopped_by edited.NoMemory refusal bytes out stops = nothing_yet out (written_unless_refused refusal bytes)
 
 pub reading_stopped : (held out : Option (List ℕ)) (from : ℕ) (to : Option ℕ) (answer : Edited) → EachHasACut → StopsReading answer → IfSome held (λ bytes. IsCutBy bytes from to answer out out)
 reading_stopped None out from to answer each stops = tt
@@ -52,7 +52,7 @@ refused_by edited.WriteFault bytes from to out r = absurd r.reason
 refused_by edited.NoMemory bytes from to out r = (
   r.outcome,
   r.stream,
-  nothing_yet out (unless_refused (cut_refusal r.outcome.end r.stream.units from to) (cut_bytes r.stream.units from (end_point to (points_of r.stream.units)))),
+  nothing_yet out (written_unless_refused (cut_refusal r.outcome.end r.stream.units from to) (cut_bytes r.stream.units from (end_point to (points_of r.stream.units)))),
 )
 
 pub cut_refused : (held out : Option (List ℕ)) (bytes bytes' : List ℕ) (from : ℕ) (to : Option ℕ) (answer : Edited) → IfSome held (λ h. bytes ≡ h) → bytes' ≡ bytes → RefusesCut bytes' from to answer
@@ -61,7 +61,7 @@ cut_refused None out bytes bytes' from to answer all same r = tt
 cut_refused (Some h) out bytes bytes' from to answer all same r = subst (λ (bs : List ℕ). IsCutBy bs from to answer out out) (same ∙ all) (refused_by answer bytes' from to out r)
 
 -- what is written is the cut
-text_is : (bytes : List ℕ) (from : ℕ) (to : Option ℕ) (part part' : List SequenceText) → (p : IsPart bytes from to part) → part' ≡ part → sequences_bytes 0 (with_pictures part') ≡ cut_bytes p.stream.units from (end_point to (points_of p.stream.units))
+text_is : (bytes : List ℕ) (from : ℕ) (to : Option ℕ) (part part' : List SequenceText) → (p : IsCutPart bytes from to part) → part' ≡ part → sequences_bytes 0 (with_pictures part') ≡ cut_bytes p.stream.units from (end_point to (points_of p.stream.units))
 text_is bytes from to part part' p same = ap (λ ss. sequences_bytes 0 (with_pictures ss)) same ∙ ap (sequences_bytes 0) p.same
 
 -- the writing ended, however it did
@@ -69,14 +69,14 @@ written_as : (w : Result (Unit {0}) Unwritten) (refusal : Option Edited) (bytes 
     → AnswersEdit (ended_as w) refusal bytes out out'
 written_as (Ok x) refusal bytes out out' none all front = (none, all)
 written_as (Err unwritten.Failed) refusal bytes out out' none all front = (none, front)
-written_as (Err unwritten.NoMemory) refusal bytes out out' none all front = subst (λ (r : Option Edited). AppendsFront out out' (unless_refused r bytes)) (sym none) front
+written_as (Err unwritten.NoMemory) refusal bytes out out' none all front = subst (λ (r : Option Edited). AppendsFront out out' (written_unless_refused r bytes)) (sym none) front
 
 pub ended_by : (answer : Edited) (w : Result (Unit {0}) Unwritten) (refusal : Option Edited) (bytes : List ℕ) (out out' : Option (List ℕ)) → answer ≡ ended_as w → refusal ≡ None → OnOk w (Appends out out' bytes)
     → AppendsFront out out' bytes → AnswersEdit answer refusal bytes out out'
 ended_by answer w refusal bytes out out' is none all front = subst (λ (a : Edited). AnswersEdit a refusal bytes out out') (sym is) (written_as w refusal bytes out out' none all front)
 
 pub cut_written : (held out out' : Option (List ℕ)) (bytes bytes' : List ℕ) (from : ℕ) (to : Option ℕ) (part part' : List SequenceText) (answer : Edited) (w : Result (Unit {0}) Unwritten) → IfSome held (λ h. bytes ≡ h)
-    → bytes' ≡ bytes → IsPart bytes' from to part → part' ≡ part → answer ≡ ended_as w → OnOk w (Appends out out' (sequences_bytes 0 (with_pictures part')))
+    → bytes' ≡ bytes → IsCutPart bytes' from to part → part' ≡ part → answer ≡ ended_as w → OnOk w (Appends out out' (sequences_bytes 0 (with_pictures part')))
     → AppendsFront out out' (sequences_bytes 0 (with_pictures part')) → IfSome held (λ h. IsCutBy h from to answer out out')
 cut_written None out out' bytes bytes' from to part part' answer w all same p parts is written front = tt
 cut_written (Some h) out out' bytes bytes' from to part part' answer w all same p parts is written front =
@@ -89,7 +89,7 @@ cut_written (Some h) out out' bytes bytes' from to part part' answer w all same 
           (subst (λ (bs : List ℕ). OnOk w (Appends out out' bs)) text written) (subst (λ (bs : List ℕ). AppendsFront out out' bs) text front),
     )
 
-pub part_shows : (held : Option (List ℕ)) (bytes bytes' : List ℕ) (from : ℕ) (to : Option ℕ) (part : List SequenceText) (P : Type 0) → IfSome held (λ h. bytes ≡ h) → bytes' ≡ bytes → IsPart bytes' from to part
+pub part_shows : (held : Option (List ℕ)) (bytes bytes' : List ℕ) (from : ℕ) (to : Option ℕ) (part : List SequenceText) (P : Type 0) → IfSome held (λ h. bytes ≡ h) → bytes' ≡ bytes → IsCutPart bytes' from to part
     → IfSome held (λ h. P → ShowsPart h from to)
 part_shows None bytes bytes' from to part P all same p = tt
 part_shows (Some h) bytes bytes' from to part P all same p = λ _. subst (λ (bs : List ℕ). ShowsPart bs from to) (same ∙ all) p.shows

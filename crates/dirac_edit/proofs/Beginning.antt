@@ -7,7 +7,7 @@ use Rattle.dirac_common.specs.declared.faults.Refusal.{Refusal}
 use Rattle.dirac_units.specs.declared.info.ParseInfo.{ParseInfo}
 use Rattle.dirac_units.specs.declared.unit_place.UnitPlace.{UnitPlace}
 use Rattle.dirac_units.specs.Info.{info_read, span_of}
-use Rattle.dirac_units.specs.Cut.{IsCut, UnitText, after, fault_at, front_of, start, unit_front}
+use Rattle.dirac_units.specs.Cut.{IsCut, UnitText, after, fault_at, front_of, first_unit_place, unit_front}
 use Rattle.dirac_units.proofs.Cuts.{fewer_behind}
 use Rattle.dirac_edit.specs.Units.{IsBegun, IsCutInto, NoneIsBegun}
 
@@ -50,26 +50,26 @@ whole_unit bytes info unit rest enough read whole is rest_is = record {
 -- these are the first units of a stream, and what follows them are these bytes
 pub record Completes (bytes : List ℕ) (units : List UnitText) (rest : List ℕ) : Type 0 where
   pub unit_place : UnitPlace
-  pub whole : (more : List UnitText) (end : Option Fault) → IsCut unit_place rest more end → IsCut start bytes (units ++ more) end
+  pub whole : (more : List UnitText) (end : Option Fault) → IsCut unit_place rest more end → IsCut first_unit_place bytes (units ++ more) end
 
 pub none_cut : (bytes : List ℕ) → Completes bytes [] bytes
-none_cut bytes = record { unit_place = start; whole = λ more end cut. cut }
+none_cut bytes = record { unit_place = first_unit_place; whole = λ more end cut. cut }
 
 pub one_more_cut : (bytes : List ℕ) (units : List UnitText) (held : List ℕ) (unit : UnitText) (rest : List ℕ) → Completes bytes units held → IsBegun held unit rest → Completes bytes (units ++ unit ∷ []) rest
 one_more_cut bytes units held unit rest so begun = record {
   unit_place = after so.unit_place unit.info;
   whole = λ more end cut.
-      subst (λ (us : List UnitText). IsCut start bytes us end) (sym (append_assoc units (unit ∷ []) more))
+      subst (λ (us : List UnitText). IsCut first_unit_place bytes us end) (sym (append_assoc units (unit ∷ []) more))
       (so.whole (unit ∷ more) end (begun.front so.unit_place, begun.payload, subst (λ (bs : List ℕ). IsCut (after so.unit_place unit.info) bs more end) begun.rest_is cut));
 }
 
 pub all_cut : (bytes : List ℕ) (units : List UnitText) (rest : List ℕ) → Completes bytes units rest → NoneIsBegun rest → IsCutInto bytes units
 all_cut bytes units rest so none =
     let end : (end : Option Fault) × (front_of so.unit_place rest ≡ Err end) = none so.unit_place in
-    (end.0, subst (λ (us : List UnitText). IsCut start bytes us end.0) (append-nil units) (so.whole [] end.0 end.1))
+    (end.0, subst (λ (us : List UnitText). IsCut first_unit_place bytes us end.0) (append-nil units) (so.whole [] end.0 end.1))
 
 -- behind it fewer bytes are left
 pub fewer_left : (bytes : List ℕ) (unit : UnitText) (rest : List ℕ) → IsBegun bytes unit rest → length rest + 13 ≤ length bytes
 fewer_left bytes unit rest begun =
     let P : List ℕ → Type 0 = λ bs. length bs + 13 ≤ length bytes in
-    subst P (sym begun.rest_is) (fewer_behind start bytes unit.info (begun.front start))
+    subst P (sym begun.rest_is) (fewer_behind first_unit_place bytes unit.info (begun.front first_unit_place))

@@ -5,8 +5,8 @@ use Rattle.std.specs.List.{AllByRecursion}
 use Rattle.std.specs.Option.{option_or}
 use Rattle.dirac_common.specs.declared.faults.Fault.{Fault}
 use Rattle.dirac_units.specs.declared.unit_place.UnitPlace.{UnitPlace}
-use Rattle.dirac_units.specs.Cut.{IsCut, NoneHasTwoCuts, UnitText, after, start}
-use Rattle.dirac_content.specs.StreamState.{StreamState, begun, unit_step}
+use Rattle.dirac_units.specs.Cut.{IsCut, NoneHasTwoCuts, UnitText, after, first_unit_place}
+use Rattle.dirac_content.specs.StreamState.{StreamState, stream_begun, unit_step}
 use Rattle.dirac_content.specs.Shown.{IsShown, Outcome, follows, outcome}
 use Rattle.dirac_edit_laws.specs.Cut.{cut_bytes, end_point, open_cut, part_of, part_shown, wrong_point}
 use Rattle.dirac_edit_laws.specs.Laws.{CutsShowTheirParts, IsFaultless, ShowsJust, UnitsShowTheirSequences}
@@ -18,7 +18,7 @@ use Rattle.dirac_edit.specs.declared.bounds.Part.{Part}
 use Rattle.dirac_edit.specs.Edits.{cut_refusal}
 use Rattle.dirac_edit.specs.Kept.{kept_of}
 use Rattle.dirac_edit.specs.Open.{first_open_among}
-use Rattle.dirac_edit.specs.Steps.{HasNoFault, IsChecked, IsPart, IsRefused, RefusesCut}
+use Rattle.dirac_edit.specs.Steps.{HasNoFault, IsChecked, IsCutPart, IsStreamRefused, RefusesCut}
 use Rattle.dirac_edit.specs.Units.{IsCutInto}
 use Rattle.dirac_edit.proofs.Keeping.{part_kept}
 use Rattle.dirac_edit.proofs.Opening.{open_is}
@@ -41,18 +41,18 @@ checked bytes units one sound found =
       outcome = sound.0;
       stream = stream;
       none = sound.2;
-      same = (one start bytes stream.units units stream.end found.0 stream.cut found.1).0;
+      same = (one first_unit_place bytes stream.units units stream.end found.0 stream.cut found.1).0;
     }
 
 -- it is without a fault
 pub faultless : (bytes : List ℕ) (units : List UnitText) → AllByRecursion (λ b. b < 2 ^ 8) bytes → IsChecked bytes units → IsFaultless bytes units
 faultless bytes units below c =
-    let good : (outcome begun start c.stream.units c.stream.end).end ≡ None = ap (λ (o : Outcome). o.end) c.stream.same ∙ c.none in
-    let last : c.stream.end ≡ None = ends_well c.stream.units begun start c.stream.end good in
+    let good : (outcome stream_begun first_unit_place c.stream.units c.stream.end).end ≡ None = ap (λ (o : Outcome). o.end) c.stream.same ∙ c.none in
+    let last : c.stream.end ≡ None = ends_well c.stream.units stream_begun first_unit_place c.stream.end good in
     record {
       below = below;
-      cut = subst (λ (us : List UnitText). IsCut start bytes us None) c.same (subst (λ (e : Option Fault). IsCut start bytes c.stream.units e) last c.stream.cut);
-      none = subst (λ (us : List UnitText). (outcome begun start us None).end ≡ None) c.same (subst (λ (e : Option Fault). (outcome begun start c.stream.units e).end ≡ None) last good);
+      cut = subst (λ (us : List UnitText). IsCut first_unit_place bytes us None) c.same (subst (λ (e : Option Fault). IsCut first_unit_place bytes c.stream.units e) last c.stream.cut);
+      none = subst (λ (us : List UnitText). (outcome stream_begun first_unit_place us None).end ≡ None) c.same (subst (λ (e : Option Fault). (outcome stream_begun first_unit_place c.stream.units e).end ≡ None) last good);
     }
 
 -- why a cut of it is refused, by its points and its open unit
@@ -74,7 +74,7 @@ wrong_refused bytes units from to n c is = record {
 }
 
 -- a stream with a fault
-pub fault_refused : (bytes : List ℕ) (from : ℕ) (to : Option ℕ) (answer : Edited) → IsRefused bytes answer → RefusesCut bytes from to answer
+pub fault_refused : (bytes : List ℕ) (from : ℕ) (to : Option ℕ) (answer : Edited) → IsStreamRefused bytes answer → RefusesCut bytes from to answer
 fault_refused bytes from to edited.Done refused = absurd refused
 fault_refused bytes from to (edited.Fault fault) refused = record {
   outcome = refused.0;
@@ -132,7 +132,7 @@ open_refused bytes units from to kept open_unit n shown below c f is = record {
 
 -- a part that may be written
 pub part_allowed : (bytes : List ℕ) (units : List UnitText) (from : ℕ) (to : Option ℕ) (kept : List SequenceText) (open_unit : Option ℕ) → UnitsShowTheirSequences → CutsShowTheirParts → AllByRecursion (λ b. b < 2 ^ 8) bytes
-    → IsChecked bytes units → IsFound units from to kept open_unit → open_unit ≡ None → IsPart bytes from to kept
+    → IsChecked bytes units → IsFound units from to kept open_unit → open_unit ≡ None → IsCutPart bytes from to kept
 part_allowed bytes units from to kept open_unit all shown below c f is =
     let part : Part = record { from = from; to = end_point to (points_of units) } in
     let closed : open_cut units from (end_point to (points_of units)) ≡ None = sym (open_unit_is bytes units from to kept open_unit all below c f) ∙ is in

@@ -8,16 +8,16 @@ use Rattle.dirac_common.specs.declared.faults.Fault.{Fault}
 use Rattle.dirac_common.specs.declared.faults.Refusal.{Refusal}
 use Rattle.dirac_units.specs.declared.unit.Unit.{Unit as TheUnit}
 use Rattle.dirac_units.specs.declared.unit_place.UnitPlace.{UnitPlace}
-use Rattle.dirac_units.specs.Cut.{EachHasACut, front_of, start}
+use Rattle.dirac_units.specs.Cut.{EachHasACut, front_of, first_unit_place}
 use Rattle.dirac_units.specs.Info.{fields_are_read}
-use Rattle.dirac_units.specs.Progress.{Ends, GivesUnit, IsFirstUnit, Progress}
+use Rattle.dirac_units.specs.Progress.{Ends, GivesUnit, IsFirstUnit, CuttingProgress}
 use Rattle.dirac_sequence_header.specs.declared.sequence.Sequence.{Sequence}
 use Rattle.dirac_sequence_header.specs.Grammar.{sequence_read}
 use Rattle.dirac_picture.specs.declared.coded.CodedPicture.{CodedPicture}
 use Rattle.dirac_picture.specs.Grammar.{picture_read}
 use Rattle.dirac_content.specs.declared.opened.Opened.{Opened}
 use Rattle.dirac_content.specs.Content.{rebuilt}
-use Rattle.dirac_content.specs.StreamState.{StreamState, StreamStep, begun, content, ended, header_step, is_same, made, opening, passed, picture_step, staying, unit_step}
+use Rattle.dirac_content.specs.StreamState.{StreamState, StreamStep, stream_begun, content, ended, header_step, is_same, shown_or_refused, opening, passed, picture_step, staying, unit_step}
 use Rattle.dirac_content.specs.Shown.{IsShown, Outcome, Shows, ends_with, with_front}
 use Rattle.dirac_content.proofs.Passing.{fault_of, told_end, told_refusal, told_unit}
 use Rattle.dirac_edit.specs.Course.{content_checked, listed_by, picture_checked, state_of, unit_checked}
@@ -51,7 +51,7 @@ header_followed a b (Some o) payload alike =
       | false ↦ refl
     ]
 
-read_followed : (a b : StreamState) (o : Opened) (r : Result CodedPicture Refusal) → IsAlike a b → IsFollowed (made a o r) (listed_by b r)
+read_followed : (a b : StreamState) (o : Opened) (r : Result CodedPicture Refusal) → IsAlike a b → IsFollowed (shown_or_refused a o r) (listed_by b r)
 read_followed a b o (Ok coded) alike = record {
   opened = alike.opened;
   listed = same_committed a.list b.list coded.header.retire coded.code (rebuilt o.sequence a.list coded) (numbered coded.header.number) alike.listed refl;
@@ -61,7 +61,7 @@ read_followed a b o (Err refusal) alike = refl
 picture_followed : (a b : StreamState) (o : Option Opened) (code : ℕ) (payload : List ℕ) → IsAlike a b → IsFollowed (picture_step a o code payload) (picture_checked b o code payload)
 picture_followed a b None code payload alike = refl
 picture_followed a b (Some o) code payload alike =
-    subst (λ (r : Result CodedPicture Refusal). IsFollowed (made a o (picture_read code o.sequence a.list payload)) (listed_by b r))
+    subst (λ (r : Result CodedPicture Refusal). IsFollowed (shown_or_refused a o (picture_read code o.sequence a.list payload)) (listed_by b r))
     (same_read code o.sequence a.list b.list payload alike.listed)
     (read_followed a b o (picture_read code o.sequence a.list payload) alike)
 
@@ -122,9 +122,9 @@ pub record Reaches (bytes : List ℕ) (unit_place : UnitPlace) (rest : List ℕ)
   pub alike : IsAlike state course
   pub ends : (o : Outcome) → Shows state unit_place rest o → EndsWith bytes o.end
 
-pub reached_first : (bytes : List ℕ) → Reaches bytes start bytes begun
+pub reached_first : (bytes : List ℕ) → Reaches bytes first_unit_place bytes stream_begun
 reached_first bytes = record {
-  state = begun;
+  state = stream_begun;
   alike = record { opened = refl; listed = refl };
   ends = λ o shows. (o, shows, refl);
 }
@@ -137,7 +137,7 @@ front_told ahead ahead' held held' unit unit_place none none' told =
     (subst (λ (ys : List ℕ). IfSome (prepend_known ahead held) (λ bytes. IsFirstUnit true unit unit_place bytes (prepend_known ys held'))) none' told)
 
 -- one unit more
-pub reached_next : (bytes : List ℕ) (unit : TheUnit) (old new : Progress) (rest rest' : List ℕ) (course course' : StreamState) → Reaches bytes old.unit_place rest course → old.ahead ≡ [] → new.ahead ≡ []
+pub reached_next : (bytes : List ℕ) (unit : TheUnit) (old new : CuttingProgress) (rest rest' : List ℕ) (course course' : StreamState) → Reaches bytes old.unit_place rest course → old.ahead ≡ [] → new.ahead ≡ []
     → GivesUnit true unit old new (Some rest) (Some rest') → unit_checked course unit.info.code unit.payload ≡ Ok course' → Reaches bytes new.unit_place rest' course'
 reached_next bytes unit old new rest rest' course course' r none none' gives is =
     let on : GoesOn (unit_step r.state unit.info.code unit.payload) course' =
@@ -152,7 +152,7 @@ reached_next bytes unit old new rest rest' course course' r none none' gives is 
     }
 
 -- a unit that is refused
-pub reached_fault : (bytes : List ℕ) (unit : TheUnit) (old new : Progress) (rest rest' : List ℕ) (course : StreamState) (refusal : Refusal) → EachHasACut → Reaches bytes old.unit_place rest course → old.ahead ≡ [] → new.ahead ≡ []
+pub reached_fault : (bytes : List ℕ) (unit : TheUnit) (old new : CuttingProgress) (rest rest' : List ℕ) (course : StreamState) (refusal : Refusal) → EachHasACut → Reaches bytes old.unit_place rest course → old.ahead ≡ [] → new.ahead ≡ []
     → GivesUnit true unit old new (Some rest) (Some rest') → unit_checked course unit.info.code unit.payload ≡ Err refusal
     → EndsWith bytes (Some (record { unit = unit.index; at = unit.at + refusal.at; cause = refusal.cause }))
 reached_fault bytes unit old new rest rest' course refusal cuts r none none' gives is =
@@ -167,7 +167,7 @@ reached_fault bytes unit old new rest rest' course refusal cuts r none none' giv
     (subst (λ (a : ℕ). EndsWith bytes (fault old.unit_place.index a)) (sym gives.at) here)
 
 -- the end, lawful or a fault of the cutting
-pub reached_end : (bytes : List ℕ) (old : Progress) (rest : List ℕ) (held' : Option (List ℕ)) (course : StreamState) (end : Option Fault) → Reaches bytes old.unit_place rest course → old.ahead ≡ [] → Ends old (Some rest) held' end
+pub reached_end : (bytes : List ℕ) (old : CuttingProgress) (rest : List ℕ) (held' : Option (List ℕ)) (course : StreamState) (end : Option Fault) → Reaches bytes old.unit_place rest course → old.ahead ≡ [] → Ends old (Some rest) held' end
     → EndsWith bytes end
 reached_end bytes old rest held' course end r none ends =
     r.ends (ends_with r.state end)

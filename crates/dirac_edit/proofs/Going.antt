@@ -4,11 +4,11 @@ use Rattle.std.proofs.lemmas.List.{drop_all, drop_more}
 use Rattle.dirac_common.specs.declared.picture.Picture.{Picture}
 use Rattle.dirac_common.specs.Codes.{is_intra}
 use Rattle.dirac_units.specs.Cut.{UnitText}
-use Rattle.dirac_edit_laws.specs.Cut.{first_of}
-use Rattle.dirac_edit_laws.specs.Texts.{PictureText, SequenceText, points_of, points_with}
+use Rattle.dirac_edit_laws.specs.Cut.{first_answer}
+use Rattle.dirac_edit_laws.specs.Texts.{PictureText, SequenceText, points_of, points_up_to}
 use Rattle.dirac_edit.specs.declared.bounds.Part.{Part}
 use Rattle.dirac_edit.specs.Kept.{Walked, all_of, kept_of, walked, walked_from}
-use Rattle.dirac_edit.specs.Open.{first_open, first_open_among, header_in, list_with, open_or}
+use Rattle.dirac_edit.specs.Open.{first_open, first_open_among, header_in, list_behind_header, open_or}
 
 -- the item at a place, and what is behind it
 pub left_at : {A : Type 0} (xs : List A) (i : ℕ) (x : A) → i < length xs → x ≡ get_or xs i x → drop i xs ≡ x ∷ drop (i + 1) xs
@@ -19,7 +19,7 @@ pub points_more : (units : List UnitText) (i : ℕ) (u : UnitText) (points point
     → points' ≡ cond (is_intra u.info.code) (points + 1) points → points' + points_of (drop (i + 1) units) ≡ points_of units
 unfolding points_of
 points_more units i u points points' inside is so next =
-    let left : points_of (drop i units) ≡ points_with (points_of (drop (i + 1) units)) u = ap points_of (left_at units i u inside is) in
+    let left : points_of (drop i units) ≡ points_up_to (points_of (drop (i + 1) units)) u = ap points_of (left_at units i u inside is) in
     elim_intra (is_intra u.info.code) (points_of (drop (i + 1) units)) points points' (points_of units) next (ap (λ n. points + n) (sym left) ∙ so) where
       elim_intra : (b : Bool) (rest points points' all : ℕ) → points' ≡ cond b (points + 1) points → points + cond b (suc rest) rest ≡ all → points' + rest ≡ all
       elim_intra true rest points points' all next so = omega (arith, next, so)
@@ -43,13 +43,13 @@ walked_all part units i w past so = so ∙ ap (λ us. all_of (walked_from part i
 
 -- pictures: one that isn't open, one that is, and none
 pub listed_more : (pictures : List PictureText) (i : ℕ) (p : PictureText) (list list' : List Picture) → i < length pictures → p ≡ get_or pictures i p
-    → first_open [] pictures ≡ first_open list (drop i pictures) → list_with list p.code (header_in p) ≡ Some list' → first_open [] pictures ≡ first_open list' (drop (i + 1) pictures)
+    → first_open [] pictures ≡ first_open list (drop i pictures) → list_behind_header list p.code (header_in p) ≡ Some list' → first_open [] pictures ≡ first_open list' (drop (i + 1) pictures)
 unfolding first_open
 listed_more pictures i p list list' inside is so next =
     so ∙ ap (first_open list) (left_at pictures i p inside is) ∙ ap (open_or p.index (λ next. first_open next (drop (i + 1) pictures))) next
 
 pub open_here : (pictures : List PictureText) (i : ℕ) (p : PictureText) (list : List Picture) → i < length pictures → p ≡ get_or pictures i p
-    → first_open [] pictures ≡ first_open list (drop i pictures) → list_with list p.code (header_in p) ≡ None → Some p.index ≡ first_open [] pictures
+    → first_open [] pictures ≡ first_open list (drop i pictures) → list_behind_header list p.code (header_in p) ≡ None → Some p.index ≡ first_open [] pictures
 unfolding first_open
 open_here pictures i p list inside is so next =
     sym (so ∙ ap (first_open list) (left_at pictures i p inside is) ∙ ap (open_or p.index (λ next. first_open next (drop (i + 1) pictures))) next)
@@ -63,13 +63,13 @@ pub sequence_more : (sequences : List SequenceText) (i : ℕ) (s : SequenceText)
     → first_open_among sequences ≡ first_open_among (drop i sequences) → None ≡ first_open [] s.pictures → first_open_among sequences ≡ first_open_among (drop (i + 1) sequences)
 unfolding first_open_among
 sequence_more sequences i s inside is so none =
-    so ∙ ap first_open_among (left_at sequences i s inside is) ∙ ap (λ first. first_of first (first_open_among (drop (i + 1) sequences))) (sym none)
+    so ∙ ap first_open_among (left_at sequences i s inside is) ∙ ap (λ first. first_answer first (first_open_among (drop (i + 1) sequences))) (sym none)
 
 pub sequence_open : (sequences : List SequenceText) (i : ℕ) (s : SequenceText) (n : ℕ) → i < length sequences → s ≡ get_or sequences i s
     → first_open_among sequences ≡ first_open_among (drop i sequences) → Some n ≡ first_open [] s.pictures → Some n ≡ first_open_among sequences
 unfolding first_open_among
 sequence_open sequences i s n inside is so some =
-    sym (so ∙ ap first_open_among (left_at sequences i s inside is) ∙ ap (λ first. first_of first (first_open_among (drop (i + 1) sequences))) (sym some))
+    sym (so ∙ ap first_open_among (left_at sequences i s inside is) ∙ ap (λ first. first_answer first (first_open_among (drop (i + 1) sequences))) (sym some))
 
 pub no_sequence_open : (sequences : List SequenceText) (i : ℕ) → length sequences ≤ i → first_open_among sequences ≡ first_open_among (drop i sequences) → None ≡ first_open_among sequences
 unfolding first_open_among

@@ -8,7 +8,7 @@ use Rattle.dirac_common.specs.declared.codes.TheConstants.{END_OF_SEQUENCE, SEQU
 use Rattle.dirac_units.specs.Cut.{UnitText}
 use Rattle.dirac_units.specs.Info.{is_picture}
 use Rattle.dirac_edit_laws.specs.Cut.{restricted}
-use Rattle.dirac_edit_laws.specs.Texts.{PictureText, SequenceText, closed_off, opened_by, picture_text, points_with, sequences, sequences_from, with_picture}
+use Rattle.dirac_edit_laws.specs.Texts.{PictureText, SequenceText, closed_off, opened_by, picture_text_at, points_up_to, sequences, sequences_from, with_picture_text}
 use Rattle.dirac_edit.specs.declared.bounds.Part.{Part}
 use Rattle.dirac_edit.specs.Kept.{Walked, all_of, keeps, kept_of, walked_from, with_kept}
 
@@ -26,14 +26,14 @@ opened_down part (Some s) payload = refl
 
 -- a picture at the end, if it is kept
 kept_last : (b : Bool) (header : List ℕ) (pictures : List PictureText) (p : PictureText)
-    → (if b then with_picture (Some (record { header = header; pictures = pictures })) p else Some (record { header = header; pictures = pictures }))
+    → (if b then with_picture_text (Some (record { header = header; pictures = pictures })) p else Some (record { header = header; pictures = pictures }))
     ≡ Some (record { header = header; pictures = pictures ++ (if b then p ∷ [] else []) })
 kept_last true header pictures p = refl
 kept_last false header pictures p = ap (λ (ps : List PictureText). let t : SequenceText = record { header = header; pictures = ps } in Some t) (sym (append-nil pictures))
 
-kept_down : (part : Option Part) (now : Option SequenceText) (p : PictureText) → with_kept part (option_map (cut_down part) now) p ≡ option_map (cut_down part) (with_picture now p)
+kept_down : (part : Option Part) (now : Option SequenceText) (p : PictureText) → with_kept part (option_map (cut_down part) now) p ≡ option_map (cut_down part) (with_picture_text now p)
 kept_down part None p = none_either (keeps part p) where
-  none_either : (b : Bool) → (if b then with_picture None p else None) ≡ option_map (cut_down part) (with_picture None p)
+  none_either : (b : Bool) → (if b then with_picture_text None p else None) ≡ option_map (cut_down part) (with_picture_text None p)
   none_either true = refl
   none_either false = refl
 kept_down part (Some s) p =
@@ -46,8 +46,8 @@ walked_by header end picture part index w u =
     if header then record w { now = opened_by w.now u.payload }
     else if end then record w { ended = all_of w; now = None }
     else if picture then record w {
-      now = with_kept part w.now (picture_text index (points_with w.points u) u);
-      points = points_with w.points u;
+      now = with_kept part w.now (picture_text_at index (points_up_to w.points u) u);
+      points = points_up_to w.points u;
     }
     else w
 
@@ -55,7 +55,7 @@ abbrev sequences_by : Bool → Bool → Bool → ℕ → ℕ → Option Sequence
 sequences_by header end picture index points now u units =
     if header then sequences_from (suc index) points (opened_by now u.payload) units
     else if end then closed_off now ++ sequences_from (suc index) points None units
-    else if picture then sequences_from (suc index) (points_with points u) (with_picture now (picture_text index (points_with points u) u)) units
+    else if picture then sequences_from (suc index) (points_up_to points u) (with_picture_text now (picture_text_at index (points_up_to points u) u)) units
     else sequences_from (suc index) points now units
 
 -- that is what is kept of them
@@ -82,9 +82,9 @@ step false true picture part u units later index points ended now =
     ∙ ap (λ ss. ended ++ (ss ++ map r rest)) (sym (closed_down part now))
     ∙ ap (λ ss. ended ++ ss) (sym (map-append r (closed_off now) rest))
 step false false true part u units later index points ended now =
-    let p : PictureText = picture_text index (points_with points u) u in
-    ap (λ s. all_of (walked_from part (suc index) (walking part (points_with points u) ended s) units)) (kept_down part now p)
-    ∙ later (suc index) (points_with points u) ended (with_picture now p)
+    let p : PictureText = picture_text_at index (points_up_to points u) u in
+    ap (λ s. all_of (walked_from part (suc index) (walking part (points_up_to points u) ended s) units)) (kept_down part now p)
+    ∙ later (suc index) (points_up_to points u) ended (with_picture_text now p)
 step false false false part u units later index points ended now = later (suc index) points ended now
 
 kept_by : (part : Option Part) (units : List UnitText) → IsKeptOf part units

@@ -7,11 +7,11 @@ use Rattle.std.proofs.lemmas.List.{drop_all, map-append}
 use Rattle.dirac_common.specs.declared.codes.TheConstants.{SEQUENCE_HEADER}
 use Rattle.dirac_content.specs.StreamState.{is_same}
 use Rattle.dirac_encode_laws.specs.Stream.{end_unit, unit}
-use Rattle.dirac_edit_laws.specs.Joined.{Group, bare, bytes_or_bare, first_number, group_of, groups_behind, groups_of, high, joined, low, may_merge, merged, moved_key, renumbered, shift, text_of}
+use Rattle.dirac_edit_laws.specs.Joined.{Group, bare, bytes_or_bare, first_number, group_of, groups_behind, groups_of, high, joined_sequences, low, may_merge, merged, moved_key, renumbered, shift, renumbered_text}
 use Rattle.dirac_edit_laws.specs.Texts.{PictureText, SequenceText, with_pictures}
 use Rattle.dirac_edit_laws.specs.Units.{pictures_bytes, sequence_bytes, sequences_bytes}
 use Rattle.dirac_edit_laws.proofs.Keys.{Merges, below_high, merges}
-use Rattle.dirac_edit.specs.Merged.{Added, Latest, Progress, added, added_behind, below, keys_among, length_behind, may_follow, moved_on, onto, own, own_bytes, own_length, shift_onto, units_behind, way_onto}
+use Rattle.dirac_edit.specs.Merged.{Added, Latest, WritingProgress, added, added_behind, below, keys_among, length_behind, may_follow, moved_on, onto, own_sequence, own_bytes, own_length, shift_onto, units_behind, way_onto}
 use Rattle.dirac_edit.proofs.Going.{left_at}
 use Rattle.dirac_edit.proofs.Placed.{high_is, high_onto, low_is, moved_texts_are, own_texts}
 use Rattle.dirac_edit_laws.proofs.Joining.{at_most_itself}
@@ -41,33 +41,33 @@ units_ended (x ∷ xs) previous =
 
 -- the units of a group up to its end unit, and the length of the last one
 abbrev pub group_bytes : ℕ → Group → List ℕ
-group_bytes previous g = unit SEQUENCE_HEADER previous g.header ++ units_behind (13 + length g.header) (text_of g).pictures
+group_bytes previous g = unit SEQUENCE_HEADER previous g.header ++ units_behind (13 + length g.header) (renumbered_text g).pictures
 
 abbrev pub group_length : Group → ℕ
-group_length g = length_behind (13 + length g.header) (text_of g).pictures
+group_length g = length_behind (13 + length g.header) (renumbered_text g).pictures
 
-group_ended : (g : Group) (previous : ℕ) → sequence_bytes previous (text_of g) ≡ group_bytes previous g ++ end_unit (group_length g)
+group_ended : (g : Group) (previous : ℕ) → sequence_bytes previous (renumbered_text g) ≡ group_bytes previous g ++ end_unit (group_length g)
 group_ended g previous =
-    ap (λ bs. unit SEQUENCE_HEADER previous g.header ++ bs) (units_ended (text_of g).pictures (13 + length g.header))
-    ∙ sym (append_assoc (unit SEQUENCE_HEADER previous g.header) (units_behind (13 + length g.header) (text_of g).pictures) (end_unit (group_length g)))
+    ap (λ bs. unit SEQUENCE_HEADER previous g.header ++ bs) (units_ended (renumbered_text g).pictures (13 + length g.header))
+    ∙ sym (append_assoc (unit SEQUENCE_HEADER previous g.header) (units_behind (13 + length g.header) (renumbered_text g).pictures) (end_unit (group_length g)))
 
 -- the pictures that are appended to a group
 abbrev pub appended : Group → Group → List PictureText
 appended now g = map (renumbered now.first) (map (moved_key (shift now g)) g.pictures)
 
-merged_texts : (now g : Group) → (text_of (merged now g)).pictures ≡ (text_of now).pictures ++ appended now g
+merged_texts : (now g : Group) → (renumbered_text (merged now g)).pictures ≡ (renumbered_text now).pictures ++ appended now g
 merged_texts now g = map-append (renumbered now.first) now.pictures (map (moved_key (shift now g)) g.pictures)
 
 merged_bytes : (now g : Group) (previous : ℕ) → group_bytes previous (merged now g) ≡ group_bytes previous now ++ units_behind (group_length now) (appended now g)
 merged_bytes now g previous =
     let head = unit SEQUENCE_HEADER previous now.header in
     let n = 13 + length now.header in
-    ap (λ ps. head ++ units_behind n ps) (merged_texts now g) ∙ ap (λ bs. head ++ bs) (units_append (text_of now).pictures (appended now g) n)
-    ∙ sym (append_assoc head (units_behind n (text_of now).pictures) (units_behind (group_length now) (appended now g)))
+    ap (λ ps. head ++ units_behind n ps) (merged_texts now g) ∙ ap (λ bs. head ++ bs) (units_append (renumbered_text now).pictures (appended now g) n)
+    ∙ sym (append_assoc head (units_behind n (renumbered_text now).pictures) (units_behind (group_length now) (appended now g)))
 
 merged_length : (now g : Group) → group_length (merged now g) ≡ length_behind (group_length now) (appended now g)
 merged_length now g =
-    ap (length_behind (13 + length now.header)) (merged_texts now g) ∙ length_append (text_of now).pictures (appended now g) (13 + length now.header)
+    ap (length_behind (13 + length now.header)) (merged_texts now g) ∙ length_append (renumbered_text now).pictures (appended now g) (13 + length now.header)
 
 -- what is left to be written behind the pictures of a group
 unfoldable pub tail : ℕ → Group → List Group → List ℕ
@@ -76,13 +76,13 @@ tail previous now (g ∷ gs) =
     if may_merge now g then units_behind previous (appended now g) ++ tail (length_behind previous (appended now g)) (merged now g) gs
     else end_unit previous ++ (group_bytes 13 g ++ tail (group_length g) g gs)
 
-tail_is : (gs : List Group) (now : Group) (previous : ℕ) → sequences_bytes previous (map text_of (groups_behind now gs)) ≡ group_bytes previous now ++ tail (group_length now) now gs
+tail_is : (gs : List Group) (now : Group) (previous : ℕ) → sequences_bytes previous (map renumbered_text (groups_behind now gs)) ≡ group_bytes previous now ++ tail (group_length now) now gs
 unfolding sequences_bytes groups_behind tail
-tail_is [] now previous = append-nil (sequence_bytes previous (text_of now)) ∙ group_ended now previous
+tail_is [] now previous = append-nil (sequence_bytes previous (renumbered_text now)) ∙ group_ended now previous
 tail_is (g ∷ gs) now previous =
     let front = group_bytes previous now in
     let n = group_length now in
-    elim (may_merge now g) as (λ b. sequences_bytes previous (map text_of (if b then groups_behind (merged now g) gs else now ∷ groups_behind g gs))
+    elim (may_merge now g) as (λ b. sequences_bytes previous (map renumbered_text (if b then groups_behind (merged now g) gs else now ∷ groups_behind g gs))
     ≡ front ++ (if b then units_behind n (appended now g) ++ tail (length_behind n (appended now g)) (merged now g) gs else end_unit n ++ (group_bytes 13 g ++ tail (group_length g) g gs))) [
       | true ↦
           tail_is gs (merged now g) previous
@@ -96,26 +96,26 @@ tail_is (g ∷ gs) now previous =
 -- the same where nothing is written yet; where there is no group, just this is written
 abbrev pub whole : List ℕ → List Group → List ℕ
 whole none [] = none
-whole none (g ∷ gs) = sequences_bytes 0 (map text_of (groups_behind g gs))
+whole none (g ∷ gs) = sequences_bytes 0 (map renumbered_text (groups_behind g gs))
 
 abbrev pub left : List ℕ → ℕ → Option Group → List Group → List ℕ
 left none previous None gs = whole none gs
 left none previous (Some now) gs = tail previous now gs
 
-some_joined : (all : List SequenceText) (gs : List Group) (g : Group) → bytes_or_bare all (map text_of (groups_behind g gs)) ≡ sequences_bytes 0 (map text_of (groups_behind g gs))
+some_joined : (all : List SequenceText) (gs : List Group) (g : Group) → bytes_or_bare all (map renumbered_text (groups_behind g gs)) ≡ sequences_bytes 0 (map renumbered_text (groups_behind g gs))
 unfolding groups_behind
 some_joined all [] g = refl
 some_joined all (h ∷ gs) g =
-    elim (may_merge g h) as (λ b. bytes_or_bare all (map text_of (if b then groups_behind (merged g h) gs else g ∷ groups_behind h gs)) ≡ sequences_bytes 0 (map text_of (if b then groups_behind (merged g h) gs else g ∷ groups_behind h gs))) [
+    elim (may_merge g h) as (λ b. bytes_or_bare all (map renumbered_text (if b then groups_behind (merged g h) gs else g ∷ groups_behind h gs)) ≡ sequences_bytes 0 (map renumbered_text (if b then groups_behind (merged g h) gs else g ∷ groups_behind h gs))) [
       | true ↦ some_joined all gs (merged g h)
       | false ↦ refl
     ]
 
-joined_is : (all : List SequenceText) (gs : List Group) → bytes_or_bare all (map text_of (groups_of gs)) ≡ whole (bare all) gs
+joined_is : (all : List SequenceText) (gs : List Group) → bytes_or_bare all (map renumbered_text (groups_of gs)) ≡ whole (bare all) gs
 joined_is all [] = refl
 joined_is all (g ∷ gs) = some_joined all gs g
 
-pub all_left : (all : List SequenceText) → bytes_or_bare all (joined all) ≡ left (bare all) 0 None (map group_of (with_pictures all))
+pub all_left : (all : List SequenceText) → bytes_or_bare all (joined_sequences all) ≡ left (bare all) 0 None (map group_of (with_pictures all))
 all_left all = joined_is all (map group_of (with_pictures all))
 
 -- ---- how far the writing is
@@ -188,7 +188,7 @@ onto_is now l previous t i some small =
     }
 
 -- one sequence more
-pub record IsStep (none : List ℕ) (p : Progress) (t : SequenceText) (now : Option Group) (rest : List Group) : Type 0 where
+pub record IsStep (none : List ℕ) (p : WritingProgress) (t : SequenceText) (now : Option Group) (rest : List Group) : Type 0 where
   pub next : Option Group
   pub at : IsAt (Some (added p t).latest) (added p t).previous next
   pub bytes : left none p.previous now (group_of t ∷ rest) ≡ (added p t).bytes ++ left none (added p t).previous next rest
@@ -229,7 +229,7 @@ behind_group none l previous t now rest i some small true may =
     }
 behind_group none l previous t now rest i some small false may =
     let k = keys_among t.pictures in
-    let is : added_behind (Some l) previous t k ≡ own (end_unit previous) 13 t k = cond-false (may_follow l t.header k) _ _ may in
+    let is : added_behind (Some l) previous t k ≡ own_sequence (end_unit previous) 13 t k = cond-false (may_follow l t.header k) _ _ may in
     record {
       next = Some (group_of t);
       at = subst (λ (a : Added). IsLatest a.latest (group_of t)) (sym is) (own_is t small);
@@ -237,7 +237,7 @@ behind_group none l previous t now rest i some small false may =
           ∙ ap (λ (a : Added). a.bytes ++ tail a.previous (group_of t) rest) (sym is);
     }
 
-pub one_more : (none : List ℕ) (p : Progress) (t : SequenceText) (now : Option Group) (rest : List Group) → IsAt p.latest p.previous now → 0 < length t.pictures → first_number t.pictures < 2 ^ 32
+pub one_more : (none : List ℕ) (p : WritingProgress) (t : SequenceText) (now : Option Group) (rest : List Group) → IsAt p.latest p.previous now → 0 < length t.pictures → first_number t.pictures < 2 ^ 32
     → IsStep none p t now rest
 one_more none p t now rest at some small = by_latest p.latest p.previous now at where
   by_latest : (l : Option Latest) (previous : ℕ) (now : Option Group) → IsAt l previous now → IsStep none (record { latest = l; previous = previous }) t now rest

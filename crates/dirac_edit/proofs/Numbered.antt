@@ -6,7 +6,7 @@ use Rattle.std.proofs.lemmas.List.{drop_all}
 use Rattle.dirac_common.specs.declared.codes.TheConstants.{SEQUENCE_HEADER}
 use Rattle.dirac_units.specs.Writing.{info_bytes}
 use Rattle.dirac_encode_laws.specs.Stream.{end_unit, info_for, unit}
-use Rattle.dirac_edit_laws.specs.Joined.{bare, number_of}
+use Rattle.dirac_edit_laws.specs.Joined.{bare, number_in_payload}
 use Rattle.dirac_edit_laws.specs.Texts.{PictureText, SequenceText}
 use Rattle.dirac_edit.specs.Merged.{length_behind, moved_on, units_behind}
 use Rattle.dirac_edit.proofs.Going.{left_at}
@@ -46,14 +46,14 @@ length_left way pictures i p previous inside is = ap (λ ps. length_behind previ
 -- the next of them, by the code, the number and the rest that it is written with
 pub next_length : (way : ℕ) (p : PictureText) (next : ℕ) (rest payload : List ℕ) → payload ≡ p.payload → rest ≡ drop 4 payload → next ≡ 17 + length rest → 13 + length (moved_on way p).payload ≡ next
 next_length way p next rest payload payloads rests long =
-    sym (long ∙ ap (λ bs. 17 + length bs) (rests ∙ ap (drop 4) payloads) ∙ numbered_long ((number_of p.payload + way) % 2 ^ 32) (drop 4 p.payload))
+    sym (long ∙ ap (λ bs. 17 + length bs) (rests ∙ ap (drop 4) payloads) ∙ numbered_long ((number_in_payload p.payload + way) % 2 ^ 32) (drop 4 p.payload))
 
 pub next_unit : (way : ℕ) (pictures : List PictureText) (i : ℕ) (p : PictureText) (previous code number next : ℕ) (rest payload : List ℕ) → i < length pictures → p ≡ get_or pictures i p
-    → payload ≡ p.payload → code ≡ p.code → number ≡ number_of payload → rest ≡ drop 4 payload → next ≡ 17 + length rest
+    → payload ≡ p.payload → code ≡ p.code → number ≡ number_in_payload payload → rest ≡ drop 4 payload → next ≡ 17 + length rest
     → units_behind previous (map (moved_on way) (drop i pictures))
     ≡ unit code previous (numbered ((number + way) % 2 ^ 32) rest) ++ units_behind next (map (moved_on way) (drop (i + 1) pictures))
 next_unit way pictures i p previous code number next rest payload inside is payloads codes numbers rests long =
-    let n : (number + way) % 2 ^ 32 ≡ (number_of p.payload + way) % 2 ^ 32 = ap (λ m. (m + way) % 2 ^ 32) (numbers ∙ ap number_of payloads) in
+    let n : (number + way) % 2 ^ 32 ≡ (number_in_payload p.payload + way) % 2 ^ 32 = ap (λ m. (m + way) % 2 ^ 32) (numbers ∙ ap number_in_payload payloads) in
     units_left way pictures i p previous inside is
     ∙ ap₂ (λ (bs : List ℕ) (m : ℕ). bs ++ units_behind m (map (moved_on way) (drop (i + 1) pictures)))
     (sym (same_numbered code p.code previous _ _ rest (drop 4 p.payload) codes n (rests ∙ ap (drop 4) payloads))) (next_length way p next rest payload payloads rests long)

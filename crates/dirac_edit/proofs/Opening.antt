@@ -17,10 +17,10 @@ use Rattle.dirac_picture.specs.declared.coded.CodedMotion.{CodedMotion}
 use Rattle.dirac_picture.specs.declared.coded.CodedPicture.{CodedPicture}
 use Rattle.dirac_picture.specs.Grammar.{are_listed, body, motion, picture, picture_read, residual_unless, zero_residual}
 use Rattle.dirac_picture.proofs.Every.{Every, every_any, every_then}
-use Rattle.dirac_edit_laws.specs.Cut.{first_of, is_between, open_among, open_from, part_rebuilt, restricted}
+use Rattle.dirac_edit_laws.specs.Cut.{first_answer, is_between, open_among, open_from, part_rebuilt, restricted}
 use Rattle.dirac_edit_laws.specs.Rebuilt.{AreRead, IsRead, RebuiltText, list_behind, rebuilt_behind, rebuilt_from, rebuilt_of, rebuilt_on, rebuilt_text}
 use Rattle.dirac_edit_laws.specs.Texts.{PictureText, SequenceText}
-use Rattle.dirac_edit.specs.Open.{first_open, first_open_among, header_in, list_with, numbered, open_or}
+use Rattle.dirac_edit.specs.Open.{first_open, first_open_among, header_in, list_behind_header, numbered, open_or}
 use Rattle.dirac_edit_laws.proofs.Alike.{every_value}
 use Rattle.dirac_edit.proofs.Lookups.{behind, numbers, same_committed, same_named}
 
@@ -99,7 +99,7 @@ same_step a b s p pictures whole xs ys coded is same later =
     ∙ ap (λ (n : ℕ). numbers (committed ys coded.header.retire (as_reference n r.picture))) (sym head.code_is) in
     let listed_same : are_listed xs coded.header ≡ are_listed ys coded.header = same_named xs ys coded.header same in
     let step : first_open xs (p ∷ filter (is_between a b) pictures) ≡ open_from ys (r ∷ filter (between a b) rest) =
-    ap (λ h. open_or p.index (λ next. first_open next (filter (is_between a b) pictures)) (list_with xs p.code h)) head.read_is
+    ap (λ h. open_or p.index (λ next. first_open next (filter (is_between a b) pictures)) (list_behind_header xs p.code h)) head.read_is
     ∙ pick (are_listed xs coded.header) (committed xs coded.header.retire (as_reference p.code (numbered coded.header.number))) p.index (λ next. first_open next (filter (is_between a b) pictures))
     (open_from (list_behind ys r) (filter (between a b) rest)) (are_listed ys coded.header) listed_same
     (later (committed xs coded.header.retire (as_reference p.code (numbered coded.header.number))) (list_behind ys r) kept) in
@@ -123,4 +123,4 @@ open_in a b t read =
 pub open_is : (a b : ℕ) (ts : List SequenceText) → AllByRecursion IsRead ts → first_open_among (map (restricted a b) ts) ≡ open_among a b ts
 unfolding first_open_among open_among
 open_is a b [] read = refl
-open_is a b (t ∷ ts) read = ap₂ first_of (open_in a b t read.0) (open_is a b ts read.1)
+open_is a b (t ∷ ts) read = ap₂ first_answer (open_in a b t read.0) (open_is a b ts read.1)

@@ -6,7 +6,7 @@ use Rattle.std.proofs.lemmas.Int.{int_max_is, int_min_is, ints}
 use Rattle.std.proofs.lemmas.List.{drop_all}
 use borrow.Author.Differences.{up, down}
 use Rattle.dirac_refs.specs.Delivery.{key_of}
-use Rattle.dirac_edit_laws.specs.Joined.{Keyed, first_number, high, keyed_from, low, moved_key, new_number, number_of, renumbered}
+use Rattle.dirac_edit_laws.specs.Joined.{Keyed, first_number, high, keyed_from, low, moved_key, new_number, number_in_payload, renumbered}
 use Rattle.dirac_edit_laws.specs.Texts.{PictureText}
 use Rattle.dirac_edit_laws.proofs.Keys.{AreAtMost, NumberMoves, add_none, key_inside, keys_in, number_moves}
 use Rattle.dirac_edit.specs.declared.keys.Keys.{Keys}
@@ -75,7 +75,7 @@ pub high_onto : (ks : List Keyed) (ps : List PictureText) (m by : ℕ) → high 
 unfolding above
 high_onto ks [] m by is less some small = absurd (omega arith)
 high_onto ks (p ∷ ps) m by is less some small =
-    let n = number_of p.payload in
+    let n = number_in_payload p.payload in
     let later = map (keyed_from n) (p ∷ ps) in
     let rest = map (keyed_from n) ps in
     let first : key_of n n ≡ pos 0 = own_key n small in
@@ -99,7 +99,7 @@ pub own_texts : (first : ℕ) (ps : List PictureText) → first < 2 ^ 32 → map
 own_texts first [] small = refl
 own_texts first (p ∷ ps) small =
     ap₂ (λ (n : ℕ) (rest : List PictureText). let q : PictureText = record p { payload = to_be_bytes w32 n ++ drop 4 p.payload } in q ∷ rest)
-    (own_number first (number_of p.payload) small) (own_texts first ps small)
+    (own_number first (number_in_payload p.payload) small) (own_texts first ps small)
 
 way_is : (former first by n way : ℕ) → former < 2 ^ 32 → first < 2 ^ 32 → way ≡ ((former + by) % 2 ^ 32 + (2 ^ 32 - first)) % 2 ^ 32
     → (n + (former + by + (2 ^ 32 - first))) % 2 ^ 32 ≡ (n + way) % 2 ^ 32
@@ -113,7 +113,7 @@ pub moved_texts_are : (former first by way : ℕ) (top : ℤ) (ps : List Picture
     → map (renumbered former) (map (moved_key (pos by)) (map (keyed_from first) ps)) ≡ map (moved_on way) ps
 moved_texts_are former first by way top [] small small' less most is all = refl
 moved_texts_are former first by way top (p ∷ ps) small small' less most is all =
-    let n = number_of p.payload in
+    let n = number_in_payload p.payload in
     let m : NumberMoves former first by n = number_moves former first by n small small' less (lower (key_of first n) top by all.0 most) in
     ap₂ (λ (n : ℕ) (rest : List PictureText). let q : PictureText = record p { payload = to_be_bytes w32 n ++ drop 4 p.payload } in q ∷ rest)
     (m.number ∙ way_is former first by n way small small' is) (moved_texts_are former first by way top ps small small' less most is all.1)
@@ -127,21 +127,21 @@ max_none : (a : ℕ) → max a 0 ≡ a
 max_none a = omega arith
 
 pub above_more : (first : ℕ) (pictures : List PictureText) (i : ℕ) (p : PictureText) (m m' n : ℕ) → i < length pictures → p ≡ get_or pictures i p
-    → max m (above (map (keyed_from first) (drop i pictures))) ≡ above (map (keyed_from first) pictures) → n ≡ up (key_of first (number_of p.payload)) → m' ≡ max m n
+    → max m (above (map (keyed_from first) (drop i pictures))) ≡ above (map (keyed_from first) pictures) → n ≡ up (key_of first (number_in_payload p.payload)) → m' ≡ max m n
     → max m' (above (map (keyed_from first) (drop (i + 1) pictures))) ≡ above (map (keyed_from first) pictures)
 unfolding above
 above_more first pictures i p m m' n inside is so key next =
     let rest = above (map (keyed_from first) (drop (i + 1) pictures)) in
-    ap (λ k. max k rest) (next ∙ ap (max m) key) ∙ max_three m (up (key_of first (number_of p.payload))) rest
+    ap (λ k. max k rest) (next ∙ ap (max m) key) ∙ max_three m (up (key_of first (number_in_payload p.payload))) rest
     ∙ sym (ap (λ ps. max m (above (map (keyed_from first) ps))) (left_at pictures i p inside is)) ∙ so
 
 pub below_more : (first : ℕ) (pictures : List PictureText) (i : ℕ) (p : PictureText) (m m' n : ℕ) → i < length pictures → p ≡ get_or pictures i p
-    → max m (below (map (keyed_from first) (drop i pictures))) ≡ below (map (keyed_from first) pictures) → n ≡ down (key_of first (number_of p.payload)) → m' ≡ max m n
+    → max m (below (map (keyed_from first) (drop i pictures))) ≡ below (map (keyed_from first) pictures) → n ≡ down (key_of first (number_in_payload p.payload)) → m' ≡ max m n
     → max m' (below (map (keyed_from first) (drop (i + 1) pictures))) ≡ below (map (keyed_from first) pictures)
 unfolding below
 below_more first pictures i p m m' n inside is so key next =
     let rest = below (map (keyed_from first) (drop (i + 1) pictures)) in
-    ap (λ k. max k rest) (next ∙ ap (max m) key) ∙ max_three m (down (key_of first (number_of p.payload))) rest
+    ap (λ k. max k rest) (next ∙ ap (max m) key) ∙ max_three m (down (key_of first (number_in_payload p.payload))) rest
     ∙ sym (ap (λ ps. max m (below (map (keyed_from first) ps))) (left_at pictures i p inside is)) ∙ so
 
 pub keys_are : (pictures : List PictureText) (first a b i : ℕ) → length pictures ≤ i → first ≡ first_number pictures

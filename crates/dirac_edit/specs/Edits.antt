@@ -22,9 +22,9 @@ cut_refusal fault units from to =
     (option_map edited.OpenCut (open_cut units from (end_point to (points_of units)))))
 
 -- what may be written: nothing where it is refused
-abbrev pub unless_refused : Option Edited → List ℕ → List ℕ
-unless_refused None bytes = bytes
-unless_refused (Some answer) bytes = []
+abbrev pub written_unless_refused : Option Edited → List ℕ → List ℕ
+written_unless_refused None bytes = bytes
+written_unless_refused (Some answer) bytes = []
 
 -- what an answer says of why nothing is written, of what is else written whole, and of what a sink took
 abbrev pub AnswersEdit : Edited → Option Edited → List ℕ → Option (List ℕ) → Option (List ℕ) → Type 0
@@ -34,7 +34,7 @@ AnswersEdit (edited.NoSuchPoint n) refusal bytes out out' = (refusal ≡ Some (e
 AnswersEdit (edited.OpenCut n) refusal bytes out out' = (refusal ≡ Some (edited.OpenCut n)) × Keeps out out'
 AnswersEdit edited.ReadFault refusal bytes out out' = Keeps out out'
 AnswersEdit edited.WriteFault refusal bytes out out' = (refusal ≡ None) × AppendsFront out out' bytes
-AnswersEdit edited.NoMemory refusal bytes out out' = AppendsFront out out' (unless_refused refusal bytes)
+AnswersEdit edited.NoMemory refusal bytes out out' = AppendsFront out out' (written_unless_refused refusal bytes)
 
 -- the answer and what was written are those of the cut of these bytes
 abbrev pub IsCutBy : List ℕ → ℕ → Option ℕ → Edited → Option (List ℕ) → Option (List ℕ) → Type 0
@@ -77,11 +77,11 @@ JoinedShowsSame bytes =
     × (raws o'.shown ≡ raws o.shown) × (o'.end ≡ None)
 
 -- the answers of a joining
-abbrev pub IsJoinAnswer : Edited → Type 0
-IsJoinAnswer edited.Done = ⊤
-IsJoinAnswer (edited.Fault fault) = ⊤
-IsJoinAnswer (edited.NoSuchPoint n) = ⊥
-IsJoinAnswer (edited.OpenCut n) = ⊥
-IsJoinAnswer edited.ReadFault = ⊤
-IsJoinAnswer edited.WriteFault = ⊤
-IsJoinAnswer edited.NoMemory = ⊤
+abbrev pub IsAnswerOfJoining : Edited → Type 0
+IsAnswerOfJoining edited.Done = ⊤
+IsAnswerOfJoining (edited.Fault fault) = ⊤
+IsAnswerOfJoining (edited.NoSuchPoint n) = ⊥
+IsAnswerOfJoining (edited.OpenCut n) = ⊥
+IsAnswerOfJoining edited.ReadFault = ⊤
+IsAnswerOfJoining edited.WriteFault = ⊤
+IsAnswerOfJoining edited.NoMemory = ⊤

@@ -5,8 +5,8 @@ use Rattle.dirac_common.specs.declared.codes.TheConstants.{END_OF_SEQUENCE, SEQU
 use Rattle.dirac_units.specs.Cut.{UnitText}
 use Rattle.dirac_units.specs.Info.{is_picture}
 use Rattle.dirac_edit_laws.specs.Cut.{is_between}
-use Rattle.dirac_edit_laws.specs.Texts.{PictureText, SequenceText, closed_off, opened_by, picture_text, points_with}
-use Rattle.dirac_edit_laws.specs.Texts.{with_picture}
+use Rattle.dirac_edit_laws.specs.Texts.{PictureText, SequenceText, closed_off, opened_by, picture_text_at, points_up_to}
+use Rattle.dirac_edit_laws.specs.Texts.{with_picture_text}
 use Rattle.dirac_edit.specs.declared.bounds.Part.{Part}
 
 -- the pictures of a part, or all
@@ -16,7 +16,7 @@ keeps (Some part) p = is_between part.from part.to p
 
 -- a picture joins the open sequence, if it is kept
 abbrev pub with_kept : Option Part → Option SequenceText → PictureText → Option SequenceText
-with_kept part now p = if keeps part p then with_picture now p else now
+with_kept part now p = if keeps part p then with_picture_text now p else now
 
 -- the sequences that ended, the one that is open, and how many points there were
 pub record Walked : Type 0 where
@@ -25,8 +25,8 @@ pub record Walked : Type 0 where
   pub points : ℕ
 
 -- before the first unit
-abbrev pub begun : Walked
-begun = record { ended = []; now = None; points = 0 }
+abbrev pub walk_begun : Walked
+walk_begun = record { ended = []; now = None; points = 0 }
 
 -- behind the last one
 abbrev pub all_of : Walked → List SequenceText
@@ -39,8 +39,8 @@ walked part index w u =
     else if u.info.code == END_OF_SEQUENCE then record w { ended = all_of w; now = None }
     else if is_picture u.info.code then
     record w {
-      now = with_kept part w.now (picture_text index (points_with w.points u) u);
-      points = points_with w.points u;
+      now = with_kept part w.now (picture_text_at index (points_up_to w.points u) u);
+      points = points_up_to w.points u;
     }
     else w
 
@@ -51,4 +51,4 @@ walked_from part index w (u ∷ units) = walked_from part (suc index) (walked pa
 
 -- the sequences of a stream with the pictures that are kept
 abbrev pub kept_of : Option Part → List UnitText → List SequenceText
-kept_of part units = all_of (walked_from part 0 begun units)
+kept_of part units = all_of (walked_from part 0 walk_begun units)

@@ -7,7 +7,7 @@ use borrow.Author.Differences.{up, down}
 use Rattle.dirac_common.specs.declared.codes.TheConstants.{SEQUENCE_HEADER}
 use Rattle.dirac_content.specs.StreamState.{is_same}
 use Rattle.dirac_encode_laws.specs.Stream.{end_unit, unit}
-use Rattle.dirac_edit_laws.specs.Joined.{Keyed, first_number, keyed_from, number_of}
+use Rattle.dirac_edit_laws.specs.Joined.{Keyed, first_number, keyed_from, number_in_payload}
 use Rattle.dirac_edit_laws.specs.Texts.{PictureText, SequenceText}
 use Rattle.dirac_edit.specs.declared.keys.Keys.{Keys}
 
@@ -53,7 +53,7 @@ way_onto l k = ((l.first + shift_onto l k) % 2 ^ 32 + (2 ^ 32 - k.first)) % 2 ^ 
 -- a picture whose number is moved so far
 abbrev pub moved_on : ℕ → PictureText → PictureText
 moved_on way p =
-    record p { payload = to_be_bytes w32 ((number_of p.payload + way) % 2 ^ 32) ++ drop 4 p.payload }
+    record p { payload = to_be_bytes w32 ((number_in_payload p.payload + way) % 2 ^ 32) ++ drop 4 p.payload }
 
 -- the units of pictures behind a unit of this length
 unfoldable pub units_behind : ℕ → List PictureText → List ℕ
@@ -76,7 +76,7 @@ abbrev pub own_length : SequenceText → ℕ
 own_length s = length_behind (13 + length s.header) (map (moved_on 0) s.pictures)
 
 -- how far the writing is: the sequence that was written last, and the length of the last unit
-pub record Progress : Type 0 where
+pub record WritingProgress : Type 0 where
   pub latest : Option Latest
   pub previous : ℕ
 
@@ -87,8 +87,8 @@ pub record Added : Type 0 where
   pub previous : ℕ
 
 -- what is written of a sequence with its own header, behind these bytes
-abbrev pub own : List ℕ → ℕ → SequenceText → Keys → Added
-own before previous s k = record {
+abbrev pub own_sequence : List ℕ → ℕ → SequenceText → Keys → Added
+own_sequence before previous s k = record {
   bytes = before ++ own_bytes previous s;
   latest = record { header = s.header; first = k.first; high = k.above };
   previous = own_length s;
@@ -105,14 +105,14 @@ onto l previous s k = record {
 -- what is written of a sequence behind the latest one; with its own header it stands behind the end unit of the latest
 -- one, of 13 bytes
 abbrev pub added_behind : Option Latest → ℕ → SequenceText → Keys → Added
-added_behind None previous s k = own [] previous s k
+added_behind None previous s k = own_sequence [] previous s k
 added_behind (Some l) previous s k =
-    if may_follow l s.header k then onto l previous s k else own (end_unit previous) 13 s k
+    if may_follow l s.header k then onto l previous s k else own_sequence (end_unit previous) 13 s k
 
 -- what is written of a sequence, where the writing is so far
-abbrev pub added : Progress → SequenceText → Added
+abbrev pub added : WritingProgress → SequenceText → Added
 added p s = added_behind p.latest p.previous s (keys_among s.pictures)
 
 -- how far the writing is behind a sequence
-abbrev pub behind : Progress → SequenceText → Progress
-behind p s = record { latest = Some (added p s).latest; previous = (added p s).previous }
+abbrev pub progress_behind : WritingProgress → SequenceText → WritingProgress
+progress_behind p s = record { latest = Some (added p s).latest; previous = (added p s).previous }

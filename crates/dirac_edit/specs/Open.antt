@@ -11,7 +11,7 @@ use Rattle.dirac_header.specs.declared.header.PictureHeader.{PictureHeader}
 use Rattle.dirac_header.specs.Header.{header}
 use Rattle.dirac_refs.specs.References.{as_reference, committed}
 use Rattle.dirac_picture.specs.Grammar.{are_listed}
-use Rattle.dirac_edit_laws.specs.Cut.{first_of}
+use Rattle.dirac_edit_laws.specs.Cut.{first_answer}
 use Rattle.dirac_edit_laws.specs.Texts.{PictureText, SequenceText}
 
 -- the header that the payload of a picture begins with
@@ -27,10 +27,10 @@ abbrev pub numbered : ℕ → Picture
 numbered number = record { number = number; y = dot; u = dot; v = dot }
 
 -- the list of references behind a picture with this header; none where one that it names isn't listed
-abbrev pub list_with : List Picture → ℕ → Result PictureHeader Refusal → Option (List Picture)
-list_with list code (Ok head) =
+abbrev pub list_behind_header : List Picture → ℕ → Result PictureHeader Refusal → Option (List Picture)
+list_behind_header list code (Ok head) =
     if are_listed list head then Some (committed list head.retire (as_reference code (numbered head.number))) else None
-list_with list code (Err refusal) = Some list
+list_behind_header list code (Err refusal) = Some list
 
 -- the index of an open unit, or what is behind it
 abbrev pub open_or : ℕ → (List Picture → Option ℕ) → Option (List Picture) → Option ℕ
@@ -41,9 +41,9 @@ open_or index next (Some list) = next list
 unfoldable pub first_open : List Picture → List PictureText → Option ℕ
 first_open list [] = None
 first_open list (p ∷ pictures) =
-    open_or p.index (λ next. first_open next pictures) (list_with list p.code (header_in p))
+    open_or p.index (λ next. first_open next pictures) (list_behind_header list p.code (header_in p))
 
 -- the first one of sequences; in each nothing is listed before its first picture
 unfoldable pub first_open_among : List SequenceText → Option ℕ
 first_open_among [] = None
-first_open_among (s ∷ sequences) = first_of (first_open [] s.pictures) (first_open_among sequences)
+first_open_among (s ∷ sequences) = first_answer (first_open [] s.pictures) (first_open_among sequences)

@@ -42,10 +42,10 @@ IsReason edited.WriteFault refusal = ⊥
 IsReason edited.NoMemory refusal = ⊤
 
 -- the first fault of the stream of these bytes is the answer, or memory was wanting
-abbrev pub IsRefused : List ℕ → Edited → Type 0
-IsRefused bytes (edited.Fault fault) = (o : Outcome) × IsShown bytes o × (o.end ≡ Some fault)
-IsRefused bytes edited.NoMemory = (o : Outcome) × IsShown bytes o
-IsRefused bytes _ = ⊥
+abbrev pub IsStreamRefused : List ℕ → Edited → Type 0
+IsStreamRefused bytes (edited.Fault fault) = (o : Outcome) × IsShown bytes o × (o.end ≡ Some fault)
+IsStreamRefused bytes edited.NoMemory = (o : Outcome) × IsShown bytes o
+IsStreamRefused bytes _ = ⊥
 
 -- a stream without a fault, and its units
 pub record IsChecked (bytes : List ℕ) (units : List UnitText) : Type 0 where
@@ -55,7 +55,7 @@ pub record IsChecked (bytes : List ℕ) (units : List UnitText) : Type 0 where
   pub same : stream.units ≡ units
 
 -- a cut of these bytes isn't refused, and has the pictures of these sequences
-pub record IsPart (bytes : List ℕ) (from : ℕ) (to : Option ℕ) (part : List SequenceText) : Type 0 where
+pub record IsCutPart (bytes : List ℕ) (from : ℕ) (to : Option ℕ) (part : List SequenceText) : Type 0 where
   pub outcome : Outcome
   pub stream : IsShown bytes outcome
   pub allowed : cut_refusal outcome.end stream.units from to ≡ None
@@ -69,7 +69,7 @@ pub record RefusesCut (bytes : List ℕ) (from : ℕ) (to : Option ℕ) (answer 
   pub reason : IsReason answer (cut_refusal outcome.end stream.units from to)
 
 -- these bytes have no fault and show the same when they're joined, and these are their sequences
-pub record IsWhole (bytes : List ℕ) (all : List SequenceText) : Type 0 where
+pub record IsJoinable (bytes : List ℕ) (all : List SequenceText) : Type 0 where
   pub outcome : Outcome
   pub stream : IsShown bytes outcome
   pub allowed : join_refusal outcome.end ≡ None

@@ -4,7 +4,7 @@ use Rattle.std.specs.Prelude.{◌≡◌, ℕ, List, drop, slice_range, Option, O
 use Rattle.dirac_common.specs.declared.faults.Fault.{Fault}
 use Rattle.dirac_units.specs.declared.unit_place.UnitPlace.{UnitPlace}
 use Rattle.dirac_units.specs.Info.{span_of}
-use Rattle.dirac_units.specs.Cut.{IsCut, UnitText, front_of, start}
+use Rattle.dirac_units.specs.Cut.{IsCut, UnitText, front_of, first_unit_place}
 
 -- wherever these bytes stand, this unit begins them, and these bytes are left behind it
 pub record IsBegun (bytes : List ℕ) (unit : UnitText) (rest : List ℕ) : Type 0 where
@@ -18,4 +18,4 @@ NoneIsBegun bytes = (unit_place : UnitPlace) → (end : Option Fault) × (front_
 
 -- these are the units of a stream
 abbrev pub IsCutInto : List ℕ → List UnitText → Type 0
-IsCutInto bytes units = (end : Option Fault) × IsCut start bytes units end
+IsCutInto bytes units = (end : Option Fault) × IsCut first_unit_place bytes units end

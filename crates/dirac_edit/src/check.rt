@@ -1,6 +1,6 @@
 ghost use Rattle.std.specs.Prelude.{◌<◌, ◌^◌, IfErr, OnOk, length};
 ghost use Rattle.std.specs.List.{AllByRecursion};
-ghost use Rattle.dirac_edit.specs.Steps.{HasNoFault, IsRefused};
+ghost use Rattle.dirac_edit.specs.Steps.{HasNoFault, IsStreamRefused};
 
 use crate::answers::Edited;
 use crate::course::Course;
@@ -13,7 +13,7 @@ use std::alloc::Global;
 pub(crate) fn check(alloc: Global, bytes: &[u8]) -> Result<(), Edited>
     requires { length bytes.now < 2 ^ 63 }
     ensures sound { OnOk result (HasNoFault bytes.now) }
-    ensures refused { IfErr result (IsRefused bytes.now) }
+    ensures refused { IfErr result (IsStreamRefused bytes.now) }
 {
     bytes_have_one_cut();
     let mut source = LentBytes::of(bytes);

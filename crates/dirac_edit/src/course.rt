@@ -3,7 +3,7 @@
 
 ghost use Rattle.std.specs.Prelude.{◌≡◌, ◌+◌, ◌<◌, ◌≤◌, ◌^◌, length, IfErr, IsTrue};
 ghost use Rattle.dirac_picture.specs.Grammar.{is_picture};
-ghost use Rattle.dirac_content.specs.StreamState.{begun, header_step, in_unit, passed};
+ghost use Rattle.dirac_content.specs.StreamState.{stream_begun, header_step, in_unit, passed};
 ghost use Rattle.dirac_content.specs.Stopped.{IfStopped};
 ghost use Rattle.dirac_edit.specs.Course.{IsTaken, picture_checked, state_of, unit_checked};
 
@@ -40,7 +40,7 @@ impl Model for Course {
 impl Course {
     /// Before the first unit.
     pub(crate) fn new() -> Course
-        ensures { result ≡ begun }
+        ensures { result ≡ stream_begun }
     {
         Course {
             opened: None,

@@ -4,7 +4,7 @@ ghost use Rattle.std.specs.Prelude.{◌≡◌, ◌≤◌, ◌<◌, ◌^◌, IfEr
 ghost use Rattle.std.specs.Io.KnownBytes.{IsAtEnd};
 ghost use Rattle.dirac_io.specs.Faults.{Rose};
 ghost use Rattle.dirac_edit.specs.Edits.{IfUnwritten, IsCutBy, ShowsPart};
-ghost use Rattle.dirac_edit.specs.Steps.{IsPart, RefusesCut};
+ghost use Rattle.dirac_edit.specs.Steps.{IsCutPart, RefusesCut};
 
 use crate::answers::Edited;
 use crate::bounds::{Part, points_of, wrong_point};
@@ -62,7 +62,7 @@ fn part_of<'a>(
     to: Option<u64>,
 ) -> Result<Vec<HeldSequence<'a>>, Edited>
     requires { length bytes.now < 2 ^ 63 }
-    ensures part { IfOk result (λ part. IsPart bytes.now from to part.items) }
+    ensures part { IfOk result (λ part. IsCutPart bytes.now from to part.items) }
     ensures refused { IfErr result (RefusesCut bytes.now from to) }
 {
     check(alloc, bytes)?;

@@ -3,8 +3,8 @@
 ghost use Rattle.std.specs.Prelude.{◌≡◌, ◌≤◌, ◌<◌, ◌^◌, IfErr, IfOk, IfSome, length};
 ghost use Rattle.std.specs.Io.KnownBytes.{IsAtEnd};
 ghost use Rattle.dirac_io.specs.Faults.{Rose};
-ghost use Rattle.dirac_edit.specs.Edits.{IfUnwritten, IsJoinAnswer, IsJoinedBy, JoinedShowsSame};
-ghost use Rattle.dirac_edit.specs.Steps.{IsWhole, RefusesJoin};
+ghost use Rattle.dirac_edit.specs.Edits.{IfUnwritten, IsAnswerOfJoining, IsJoinedBy, JoinedShowsSame};
+ghost use Rattle.dirac_edit.specs.Steps.{IsJoinable, RefusesJoin};
 
 use crate::answers::Edited;
 use crate::check::{are_bytes, check};
@@ -26,7 +26,7 @@ pub fn join_stream<S: Source, K: Sink>(alloc: Global, source: &mut S, out: &mut 
     // What was written has no fault, and shows the raw pictures of the whole stream, in order.
     ensures shows { IfSome (S.held source.old) (λ bytes. result ≡ Edited.Done → JoinedShowsSame bytes) }
     // No answer names a point or an open unit.
-    ensures answer { IsJoinAnswer result }
+    ensures answer { IsAnswerOfJoining result }
     // A refusal and a failed read leave the sink as it was.
     ensures untouched { IfUnwritten result (out.new ≡ out.old) }
     ensures whole { result ≡ Edited.Done → IsAtEnd (S.held source.new) }
@@ -51,7 +51,7 @@ pub fn join_stream<S: Source, K: Sink>(alloc: Global, source: &mut S, out: &mut 
 /// The sequences of a stream, or why nothing is written.
 fn whole_of<'a>(alloc: Global, bytes: &'a [u8]) -> Result<Vec<HeldSequence<'a>>, Edited>
     requires { length bytes.now < 2 ^ 63 }
-    ensures whole { IfOk result (λ all. IsWhole bytes.now all.items) }
+    ensures whole { IfOk result (λ all. IsJoinable bytes.now all.items) }
     ensures refused { IfErr result (RefusesJoin bytes.now) }
 {
     check(alloc, bytes)?;

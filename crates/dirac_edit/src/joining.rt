@@ -7,8 +7,9 @@ ghost use Rattle.std.specs.Io.KnownBytes.{Appends};
 ghost use Rattle.dirac_io.specs.Faults.{Rose};
 ghost use Rattle.dirac_io.specs.Writing.{AppendsFront};
 ghost use Rattle.dirac_encode_laws.specs.Stream.{end_unit, unit};
-ghost use Rattle.dirac_edit_laws.specs.Joined.{bare, bytes_or_bare, first_number, joined};
-ghost use Rattle.dirac_edit.specs.Merged.{added, behind, length_behind, may_follow, moved_on, own_bytes, own_length};
+ghost use Rattle.dirac_edit_laws.specs.Joined.{bare, bytes_or_bare, first_number, joined_sequences};
+ghost use Rattle.dirac_edit.specs.Merged.{added, progress_behind, length_behind, may_follow, moved_on, own_bytes};
+ghost use Rattle.dirac_edit.specs.Merged.{own_length};
 ghost use Rattle.dirac_edit.specs.Merged.{shift_onto, units_behind, way_onto};
 
 use crate::keys::{Keys, keys_of};
@@ -100,9 +101,9 @@ struct Progress<'a> {
 }
 
 impl<'a> Model for Progress<'a> {
-    ghost use Rattle.dirac_edit.specs.Merged.{Progress as ProgressOf};
+    ghost use Rattle.dirac_edit.specs.Merged.{WritingProgress};
 
-    ghost Value = { ProgressOf };
+    ghost Value = { WritingProgress };
 
     ghost view = { λ p. record { latest = p.latest; previous = p.previous } };
 }
@@ -135,7 +136,7 @@ impl<'a> Progress<'a> {
     /// Writes a sequence, appended to the one before it where it may be.
     fn put<K: Sink>(&mut self, out: &mut K, sequence: &HeldSequence<'a>) -> Result<(), Unwritten>
         ensures all { OnOk result (Appends (K.taken out.old) (K.taken out.new) (added self.old sequence.now).bytes) }
-        ensures behind { OnOk result (self.new ≡ behind self.old sequence.now) }
+        ensures behind { OnOk result (self.new ≡ progress_behind self.old sequence.now) }
         ensures numbered { first_number sequence.now.pictures < 2 ^ 32 }
         ensures front { AppendsFront (K.taken out.old) (K.taken out.new) (added self.old sequence.now).bytes }
         ensures failed { result ≡ Err Unwritten.Failed → Rose (K.faults out.old) (K.faults out.new) }
@@ -287,9 +288,9 @@ pub(crate) fn put_joined<K: Sink>(
     sequences: &[HeldSequence<'_>],
 ) -> Result<(), Unwritten>
     ensures all { OnOk result (Appends (K.taken out.old) (K.taken out.new)
-        (bytes_or_bare sequences.now (joined sequences.now))) }
+        (bytes_or_bare sequences.now (joined_sequences sequences.now))) }
     ensures front { AppendsFront (K.taken out.old) (K.taken out.new)
-        (bytes_or_bare sequences.now (joined sequences.now)) }
+        (bytes_or_bare sequences.now (joined_sequences sequences.now)) }
     ensures failed { result ≡ Err Unwritten.Failed → Rose (K.faults out.old) (K.faults out.new) }
     ensures count { K.faults out.old ≤ K.faults out.new }
 {

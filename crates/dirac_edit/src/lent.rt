@@ -32,13 +32,13 @@ impl<'a> LentBytes<'a> {
 impl<'a> Source for LentBytes<'a> {
     ghost use Rattle.std.specs.Prelude.{Some};
     ghost use Rattle.std.proofs.Common.{lit<};
-    ghost use Rattle.dirac_io.specs.Memory.{left_of, left_of_fits};
+    ghost use Rattle.dirac_io.specs.Memory.{count_left, left_of_fits};
 
     ghost held = { λ s. Some s };
 
     ghost faults = { λ _. 0 };
 
-    ghost left = { λ s. left_of s };
+    ghost left = { λ s. count_left s };
 
     ghost left_fits = { λ s. left_of_fits s };
 

@@ -1,14 +1,14 @@
 //! The number that the payload of a picture begins with (picture header, Dirac specification).
 
 ghost use Rattle.std.specs.Prelude.{◌≡◌, ◌+◌, ◌<◌, ◌^◌, drop, length, slice_index};
-ghost use Rattle.dirac_edit_laws.specs.Joined.{number_of};
+ghost use Rattle.dirac_edit_laws.specs.Joined.{number_in_payload};
 
 // How many bytes the number has.
 const NUMBER_LENGTH: usize = 4;
 
 /// The number that a payload begins with. Bytes that it doesn't have count as 0.
 pub(crate) fn number_in(payload: &[u8]) -> u32
-    ensures { result ≡ number_of payload.now }
+    ensures { result ≡ number_in_payload payload.now }
 {
     u32::from_be_bytes([
         byte_at(payload, 0),

@@ -1,5 +1,5 @@
 ghost use Rattle.std.specs.Prelude.{◌≡◌, [], IfOk, None, Some, if◌then◌else◌};
-ghost use Rattle.dirac_edit.specs.Open.{first_open as first_open_of, first_open_among, header_in, list_with};
+ghost use Rattle.dirac_edit.specs.Open.{first_open as first_open_of, first_open_among, header_in, list_behind_header};
 
 use crate::listed::list_by_number;
 use crate::sequence::{HeldPicture, HeldSequence};
@@ -40,7 +40,7 @@ fn first_open_in(alloc: Global, pictures: &[HeldPicture<'_>]) -> Result<Option<u
 
 /// Whether a picture has a reference that isn't listed; where it hasn't it is listed itself, as its header says.
 fn is_open(alloc: Global, picture: &HeldPicture<'_>, refs: &mut RefBuffer) -> Result<bool, NoMemory>
-    ensures { IfOk result (λ is_open. list_with refs.old picture.now.code (header_in picture.now)
+    ensures { IfOk result (λ is_open. list_behind_header refs.old picture.now.code (header_in picture.now)
         ≡ (if is_open then None else Some refs.new)) }
 {
     let mut r = BitReader::new(picture.payload());

@@ -1,5 +1,5 @@
 ghost use Rattle.std.specs.Prelude.{◌≡◌, ◌+◌, ◌<◌, ◌≤◌, ◌^◌, IfOk, None, OnOk};
-ghost use Rattle.dirac_edit.specs.Kept.{all_of, begun, keeps, kept_of, walked, with_kept};
+ghost use Rattle.dirac_edit.specs.Kept.{all_of, walk_begun, keeps, kept_of, walked, with_kept};
 
 use crate::bounds::Part;
 use crate::sequence::{HeldPicture, HeldSequence};
@@ -29,7 +29,7 @@ impl<'a> Model for Walk<'a> {
 impl<'a> Walk<'a> {
     /// Before the first unit.
     fn new(alloc: Global) -> Walk<'a>
-        ensures { result ≡ begun }
+        ensures { result ≡ walk_begun }
     {
         Walk {
             alloc,

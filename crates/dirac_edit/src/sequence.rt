@@ -28,11 +28,11 @@ impl<'a> Model for HeldPicture<'a> {
 }
 
 impl<'a> HeldPicture<'a> {
-    ghost use Rattle.dirac_edit_laws.specs.Texts.{picture_text};
+    ghost use Rattle.dirac_edit_laws.specs.Texts.{picture_text_at};
 
     /// The picture of a unit with this index, up to which there are that many points.
     pub(crate) fn of(index: u64, points: u64, unit: &HeldUnit<'a>) -> HeldPicture<'a>
-        ensures { result ≡ picture_text index points unit.now }
+        ensures { result ≡ picture_text_at index points unit.now }
     {
         HeldPicture {
             index,

@@ -18,7 +18,7 @@ use Rattle.dirac_plan_laws.proofs.Each.{each_append, each_drop, each_take}
 use Rattle.dirac_encode_laws.specs.Stream.{end_info, end_unit, info_for, unit}
 use Rattle.dirac_encode_laws.proofs.Cutting.{nothing_left, one_cut, unit_front_is}
 use Rattle.dirac_encode_laws.proofs.Showing.{header_lawful, picture_cut}
-use Rattle.dirac_edit_laws.specs.Texts.{PictureText, SequenceText, closed_off, opened_by, picture_text, points_with, sequences_from, with_picture}
+use Rattle.dirac_edit_laws.specs.Texts.{PictureText, SequenceText, closed_off, opened_by, picture_text_at, points_up_to, sequences_from, with_picture_text}
 use Rattle.dirac_edit_laws.specs.Units.{end_for, pictures_bytes, pictures_units, sequences_bytes, sequences_units, text_for}
 use Rattle.dirac_edit_laws.proofs.UnitKinds.{behind_end, behind_header, behind_other, behind_picture, kind_of, of_end, of_header, of_other, of_picture}
 
@@ -96,7 +96,7 @@ unfolding FitsOpen
 opened_fits None payload fits one = record { header = one; pictures = tt }
 opened_fits (Some t) payload fits one = fits
 
-more_fits : (now : Option SequenceText) (p : PictureText) → FitsOpen now → FitsPicture p → FitsOpen (with_picture now p)
+more_fits : (now : Option SequenceText) (p : PictureText) → FitsOpen now → FitsPicture p → FitsOpen (with_picture_text now p)
 unfolding FitsOpen
 more_fits None p fits one = tt
 more_fits (Some t) p fits one = record { header = fits.header; pictures = each_append FitsPicture t.pictures (p ∷ []) fits.pictures (one, tt) }
@@ -111,9 +111,9 @@ texts_fit (u ∷ units) index points now all fits = elim (kind_of u.info.code) [
   | of_header is ↦ subst AllFit (sym (behind_header index points now u units is)) (texts_fit units (suc index) points (opened_by now u.payload) all.1 (opened_fits now u.payload fits all.0))
   | of_end is ↦ subst AllFit (sym (behind_end index points now u units is)) (each_append FitsSequence (closed_off now) (sequences_from (suc index) points None units) (closed_fits now fits) (texts_fit units (suc index) points None all.1 tt))
   | of_picture a b c is ↦
-      let up_to = points_with points u in
-      let p = picture_text index up_to u in
-      subst AllFit (sym (behind_picture index points now u units a b c)) (texts_fit units (suc index) up_to (with_picture now p) all.1 (more_fits now p fits (record { code = is; payload = all.0 })))
+      let up_to = points_up_to points u in
+      let p = picture_text_at index up_to u in
+      subst AllFit (sym (behind_picture index points now u units a b c)) (texts_fit units (suc index) up_to (with_picture_text now p) all.1 (more_fits now p fits (record { code = is; payload = all.0 })))
   | of_other a b c d ↦ subst AllFit (sym (behind_other index points now u units a b c)) (texts_fit units (suc index) points now all.1 fits)
 ]
 

@@ -21,7 +21,7 @@ use Rattle.dirac_bits.specs.Writing.{up_to_byte}
 use Rattle.dirac_sequence_header.specs.declared.sequence.Sequence.{Sequence}
 use Rattle.dirac_sequence.specs.Written.{sequence_bits, sequence_of, sequence_payload}
 use Rattle.dirac_refs.specs.declared.waiting.Waiting.{Waiting}
-use Rattle.dirac_refs.specs.Delivery.{delivered, flush, flushed, flushed_by, key_of, least, least_place, others, picture_of, pushed_all}
+use Rattle.dirac_refs.specs.Delivery.{delivered, in_delivery_order, flushed, flushed_by, key_of, least, least_place, others, picture_of, pushed_all}
 use Rattle.dirac_refs.proofs.Least.{leaves_first}
 use Rattle.dirac_plan.specs.declared.planned.Planned.{Planned}
 use Rattle.dirac_plan.specs.Plan.{plan}
@@ -34,17 +34,17 @@ use Rattle.dirac_plan_laws.specs.Plans.{PlansCanBeCoded}
 use Rattle.dirac_plan_laws.proofs.Each.{each_append, each_more}
 use Rattle.dirac_encode_laws.specs.Coding.{Made, coded_under, coding, job_of, made, own_index, reconstructions, refs_after, shown_of}
 use Rattle.dirac_encode_laws.specs.Laws.{AreMade, AreSources, Begins, JobsAreRead}
-use Rattle.dirac_encode_laws.specs.Payloads.{with_picture as picture_bits}
+use Rattle.dirac_encode_laws.specs.Payloads.{with_coded_picture}
 use Rattle.dirac_encode_laws.specs.Stream.{end_text, header_text, picture_length, picture_text as made_unit, stream_units, units_from, units_in}
 use Rattle.dirac_encode_laws.proofs.Headers.{header_read, header_short}
 use Rattle.dirac_encode_laws.proofs.Indices.{own_gives, sources_under}
 use Rattle.dirac_encode_laws.proofs.Sourcing.{jobs_read_under, sources_leave, sources_made}
-use Rattle.dirac_edit_laws.specs.Cut.{cut_bytes, first_of, open_among, open_cut, open_from, part_rebuilt, part_shown_of, restricted}
+use Rattle.dirac_edit_laws.specs.Cut.{cut_bytes, first_answer, open_among, open_cut, open_from, part_rebuilt, part_shown_of, restricted}
 use Rattle.dirac_edit_laws.specs.Encoded.{EncodedCutsShowTheirGroups, groups_in, of_groups}
 use Rattle.dirac_edit_laws.specs.Laws.{ShowsJust}
 use Rattle.dirac_edit_laws.specs.Later.{AreNotBefore}
-use Rattle.dirac_edit_laws.specs.Rebuilt.{IsRead, RebuiltText, all_shown, in_order, picture_in, rebuilt_from, waiting_from}
-use Rattle.dirac_edit_laws.specs.Texts.{PictureText, SequenceText, picture_text, points_with, sequences, sequences_from, with_pictures}
+use Rattle.dirac_edit_laws.specs.Rebuilt.{IsRead, RebuiltText, all_shown, in_order, rebuilt_picture, rebuilt_from, waiting_from}
+use Rattle.dirac_edit_laws.specs.Texts.{PictureText, SequenceText, picture_text_at, points_up_to, sequences, sequences_from, with_pictures}
 use Rattle.dirac_edit_laws.specs.Units.{sequences_bytes}
 use Rattle.dirac_edit_laws.proofs.Cutting.{Fits, FitsPicture, FitsSequence}
 use Rattle.dirac_edit_laws.proofs.EncodedMade.{BeginsIntra, coded_from, all_rebuilt, are_rebuilt, before_part, behind_point, coded_append, from_point, index_behind, index_up, made_begins, made_points, pictures_made, points_behind, points_up, rebuilt_append, refs_behind, text_made, texts_made}
@@ -79,7 +79,7 @@ picture_unit code known = elim (kind_of code) [
 
 unit_one : (t : Settings) (T : SequenceText) (previous index points : ℕ) (u : UnitText) (rest : List UnitText) (b : Bool) → IsPictureUnit u.info.code
     → sequences_from index points (Some T) ((if b then header_text t previous ∷ [] else []) ++ u ∷ rest)
-    ≡ sequences_from (suc (if b then suc index else index)) (points_with points u) (Some (longer T (picture_text (if b then suc index else index) (points_with points u) u))) rest
+    ≡ sequences_from (suc (if b then suc index else index)) (points_up_to points u) (Some (longer T (picture_text_at (if b then suc index else index) (points_up_to points u) u))) rest
 unfolding header_text
 unit_one t T previous index points u rest true is =
     behind_header index points (Some T) (header_text t previous) (u ∷ rest) refl ∙ behind_picture (suc index) points (Some T) u rest is.header is.end is.is
@@ -154,7 +154,7 @@ pushed_length (x ∷ xs) ws =
     let rest = pushed_length xs now.waiting in
     omega (arith, here, rest, length-append now.gone (pushed_all now.waiting xs).gone, length-append ws (x ∷ []))
 
-flush_length : (ws : List Waiting) → length (flush ws) ≡ length ws
+flush_length : (ws : List Waiting) → length (in_delivery_order ws) ≡ length ws
 flush_length ws =
     let all = pushed_all [] ws in
     omega (arith, pushed_length ws [], length-append all.gone (flushed all.waiting), flushed_length (length all.waiting) all.waiting refl)
@@ -217,10 +217,10 @@ map_same [] = refl
 map_same (p ∷ ps) = ap (λ l. p ∷ l) (map_same ps)
 
 -- pictures of their own keys leave in the same order
-own_order : (ps : List Picture) (first high : ℕ) → AreNumbers first high ps → high ≤ 2 ^ 31 → first_in ps ≡ Some first → flush (map as_waiting ps) ≡ in_order ps
+own_order : (ps : List Picture) (first high : ℕ) → AreNumbers first high ps → high ≤ 2 ^ 31 → first_in ps ≡ Some first → in_delivery_order (map as_waiting ps) ≡ in_order ps
 own_order ps first high all small begin =
     let ws = map (waiting_from first) ps in
-    ap flush (same_waiting ps first high all small) ∙ flush_moved (pos first) (λ p. p) ws ∙ map_same (flush ws) ∙ ap flush (sym (keys_from first ps begin))
+    ap in_delivery_order (same_waiting ps first high all small) ∙ flush_moved (pos first) (λ p. p) ws ∙ map_same (in_delivery_order ws) ∙ ap in_delivery_order (sym (keys_from first ps begin))
 
 -- ---- the plan in three parts
 
@@ -328,7 +328,7 @@ unfolding coded_under payload_by
 texts_fit_made t pictures refs [] index points short codes = tt
 texts_fit_made t pictures refs (q ∷ qs) index points short codes =
     let m = made t refs (job_of pictures q) in
-    let bits = up_to_byte (picture_bits t m.coded []) in (
+    let bits = up_to_byte (with_coded_picture t m.coded []) in (
       record { code = codes.0; payload = record { short = short.0; below = bytes_small (length bits / 8) bits } },
       texts_fit_made t pictures (refs_after refs m) qs (suc (index_up index m)) (points_up points m) short.1 codes.1,
     )
@@ -347,13 +347,13 @@ codes_of t (m ∷ ms) refs all = (all.0.fits.code, codes_of t ms (refs_after ref
 
 -- pictures of three parts, by rising numbers, leave part by part
 parts_leave : (xs ys zs : List Picture) (low high most : ℕ) → AreNumbers 0 low xs → AreNumbers low most (ys ++ zs) → AreNumbers low high ys → AreNumbers high most zs → most ≤ 2 ^ 31 → low ≤ most → high ≤ most
-    → flush (map as_waiting (xs ++ (ys ++ zs))) ≡ flush (map as_waiting xs) ++ (flush (map as_waiting ys) ++ flush (map as_waiting zs))
+    → in_delivery_order (map as_waiting (xs ++ (ys ++ zs))) ≡ in_delivery_order (map as_waiting xs) ++ (in_delivery_order (map as_waiting ys) ++ in_delivery_order (map as_waiting zs))
 parts_leave xs ys zs low high most first both second third small under under' =
     let w : List Picture → List Waiting = map as_waiting in
     let one : AreNotBefore (w (ys ++ zs)) (w xs) = not_before (w xs) (w (ys ++ zs)) (pos low) (at_most xs 0 low low first (omega arith) (omega arith)) (at_least (ys ++ zs) low most low both (omega arith) small) in
     let two : AreNotBefore (w zs) (w ys) = not_before (w ys) (w zs) (pos high) (at_most ys low high high second (omega arith) (omega arith)) (at_least zs high most high third (omega arith) small) in
-    ap flush (map-append as_waiting xs (ys ++ zs)) ∙ later_leave_later (w xs) (w (ys ++ zs)) one
-    ∙ ap (λ l. flush (w xs) ++ l) (ap flush (map-append as_waiting ys zs) ∙ later_leave_later (w ys) (w zs) two)
+    ap in_delivery_order (map-append as_waiting xs (ys ++ zs)) ∙ later_leave_later (w xs) (w (ys ++ zs)) one
+    ∙ ap (λ l. in_delivery_order (w xs) ++ l) (ap in_delivery_order (map-append as_waiting ys zs) ∙ later_leave_later (w ys) (w zs) two)
 
 length_shown : (t : Settings) (pictures refs : List Picture) (qs : List Planned) → length (map shown_of (coded_from t refs (map (job_of pictures) qs))) ≡ length qs
 unfolding coded_under
@@ -383,7 +383,7 @@ groups_numbers t pictures refs i m some h =
     numbers_lie t pictures refs (part_at t n i m) (i * group_pictures t) (min n ((i + m) * group_pictures t) - i * group_pictures t) (part_lies t n i m some h)
 
 groups_length : (t : Settings) (pictures refs : List Picture) (i m : ℕ) → 0 < t.gop → i + m ≤ groups_in t (length pictures)
-    → length (flush (map as_waiting (shown_groups t pictures refs i m))) ≡ min (length pictures) ((i + m) * group_pictures t) - i * group_pictures t
+    → length (in_delivery_order (map as_waiting (shown_groups t pictures refs i m))) ≡ min (length pictures) ((i + m) * group_pictures t) - i * group_pictures t
 groups_length t pictures refs i m some h =
     let ps = shown_groups t pictures refs i m in
     flush_length (map as_waiting ps) ∙ length-map ps as_waiting ∙ length_shown t pictures refs (part_at t (length pictures) i m) ∙ length_part t (length pictures) i m some h
@@ -429,7 +429,7 @@ are_parts t pictures a m e some is low =
 -- the reconstructions, part by part
 reconstructions_split : PlansCanBeCoded → (t : Settings) (pictures : List Picture) (a m e : ℕ) → IsAccepted t → length pictures < 2 ^ 31 → 0 < t.gop → groups_in t (length pictures) ≡ a + (m + e) → a * group_pictures t ≤ length pictures
     → reconstructions t pictures
-    ≡ flush (map as_waiting (shown_groups t pictures [] 0 a)) ++ (flush (map as_waiting (shown_groups t pictures (first_refs t pictures a) a m)) ++ flush (map as_waiting (shown_groups t pictures (second_refs t pictures a m) (a + m) e)))
+    ≡ in_delivery_order (map as_waiting (shown_groups t pictures [] 0 a)) ++ (in_delivery_order (map as_waiting (shown_groups t pictures (first_refs t pictures a) a m)) ++ in_delivery_order (map as_waiting (shown_groups t pictures (second_refs t pictures a m) (a + m) e)))
 reconstructions_split plans t pictures a m e accepted few some is low =
     let n = length pictures in
     let xs = shown_groups t pictures [] 0 a in
@@ -445,33 +445,33 @@ reconstructions_split plans t pictures a m e accepted few some is low =
     let over : a * group_pictures t ≤ high = omega arith in
     let within : high ≤ n = omega arith in
     let both = each_append (λ (p : Picture). (a * group_pictures t ≤ p.number) × (p.number < n)) ys zs (numbers_within ys (a * group_pictures t) high (a * group_pictures t) n (omega arith) within parts.second) (numbers_within zs high n (a * group_pictures t) n over (omega arith) parts.third) in
-    sym (sources_leave plans own_index t pictures accepted few) ∙ ap flush (pushed_shown (coding t pictures) ∙ ap (map as_waiting) all)
+    sym (sources_leave plans own_index t pictures accepted few) ∙ ap in_delivery_order (pushed_shown (coding t pictures) ∙ ap (map as_waiting) all)
     ∙ parts_leave xs ys zs (a * group_pictures t) high n parts.first both parts.second parts.third (omega (arith, few)) low within
 
 -- those of the groups
 groups_slice : PlansCanBeCoded → (t : Settings) (pictures : List Picture) (a m e : ℕ) → IsAccepted t → length pictures < 2 ^ 31 → 0 < t.gop → groups_in t (length pictures) ≡ a + (m + e) → a * group_pictures t ≤ length pictures
-    → of_groups t a (a + m) (reconstructions t pictures) ≡ flush (map as_waiting (shown_groups t pictures (first_refs t pictures a) a m))
+    → of_groups t a (a + m) (reconstructions t pictures) ≡ in_delivery_order (map as_waiting (shown_groups t pictures (first_refs t pictures a) a m))
 unfolding coded_under
 groups_slice plans t pictures a m zero accepted few some is low =
     let n = length pictures in
     let gop = group_pictures t in
-    let fs = flush (map as_waiting (shown_groups t pictures [] 0 a)) in
-    let gs = flush (map as_waiting (shown_groups t pictures (first_refs t pictures a) a m)) in
+    let fs = in_delivery_order (map as_waiting (shown_groups t pictures [] 0 a)) in
+    let gs = in_delivery_order (map as_waiting (shown_groups t pictures (first_refs t pictures a) a m)) in
     let k = (a + m - a) * gop in
     let one : length fs ≡ a * gop = groups_length t pictures [] 0 a some (omega (arith, is)) ∙ omega arith in
     let two = groups_length t pictures (first_refs t pictures a) a m some (omega (arith, is)) in
     let span : (a + m - a) * gop ≡ m * gop = ap (λ x. x * gop) (let e : a + m - a ≡ m = omega arith in e) in
     let long : (a + m) * gop ≡ a * gop + m * gop = omega arith in
-    let rest : List Planned → List Picture = λ qs. flush (map as_waiting (map shown_of (coded_from t (second_refs t pictures a m) (map (job_of pictures) qs)))) in
+    let rest : List Planned → List Picture = λ qs. in_delivery_order (map as_waiting (map shown_of (coded_from t (second_refs t pictures a m) (map (job_of pictures) qs)))) in
     ap (λ l. take k (drop (a * gop) l))
     (reconstructions_split plans t pictures a m 0 accepted few some is low ∙ ap (λ qs. fs ++ (gs ++ rest qs)) (part_none t n (a + m)))
     ∙ slice_last fs gs (a * gop) k one (omega arith)
 groups_slice plans t pictures a m (suc e) accepted few some is low =
     let n = length pictures in
     let gop = group_pictures t in
-    let fs = flush (map as_waiting (shown_groups t pictures [] 0 a)) in
-    let gs = flush (map as_waiting (shown_groups t pictures (first_refs t pictures a) a m)) in
-    let hs = flush (map as_waiting (shown_groups t pictures (second_refs t pictures a m) (a + m) (suc e))) in
+    let fs = in_delivery_order (map as_waiting (shown_groups t pictures [] 0 a)) in
+    let gs = in_delivery_order (map as_waiting (shown_groups t pictures (first_refs t pictures a) a m)) in
+    let hs = in_delivery_order (map as_waiting (shown_groups t pictures (second_refs t pictures a m) (a + m) (suc e))) in
     let k = (a + m - a) * gop in
     let one : length fs ≡ a * gop = groups_length t pictures [] 0 a some (omega (arith, is)) ∙ omega arith in
     let two = groups_length t pictures (first_refs t pictures a) a m some (omega (arith, is)) in
@@ -498,11 +498,11 @@ some_text s (p ∷ ps) rs is some = omega arith
 
 -- a sequence and its part, which has pictures
 part_stands : IsReadAsWritten → (units : List UnitText) (T : SequenceText) (a b : ℕ) (rs : List RebuiltText) (pictures : List Picture) → sequences units ≡ T ∷ [] → IsRead T → FitsSequence T
-    → part_rebuilt a b T ≡ rs → 0 < length rs → open_from [] rs ≡ None → in_order (map picture_in rs) ≡ pictures → (open_cut units a b ≡ None) × ShowsJust (cut_bytes units a b) pictures
+    → part_rebuilt a b T ≡ rs → 0 < length rs → open_from [] rs ≡ None → in_order (map rebuilt_picture rs) ≡ pictures → (open_cut units a b ≡ None) × ShowsJust (cut_bytes units a b) pictures
 unfolding open_among RisesOpen
 part_stands written units T a b rs pictures one read fits rebuilt many closed shown =
     let closed' : open_from [] (part_rebuilt a b T) ≡ None = ap (open_from []) rebuilt ∙ closed in
-    let none : open_among a b (T ∷ []) ≡ None = ap (λ o. first_of o None) closed' in
+    let none : open_among a b (T ∷ []) ≡ None = ap (λ o. first_answer o None) closed' in
     let rises = subst (AllByRecursion RisesAll) one (texts_rise units 0 0 None tt) in
     let kept = all_kept (T ∷ []) a b (read, tt) rises none in
     let part = restricted a b T in
@@ -512,7 +512,7 @@ part_stands written units T a b rs pictures one read fits rebuilt many closed sh
     let some = some_text s part.pictures rs again many in
     let test : nat_lt 0 (length part.pictures) ≡ true = lt-ltb 0 (length part.pictures) some in
     let parts : with_pictures (part ∷ []) ≡ part ∷ [] = ap (λ (c : Bool). if c then part ∷ [] else []) test in
-    let all : all_shown (part ∷ []) ≡ pictures = kept.same ∙ append-nil (part_shown_of a b T) ∙ ap (λ l. in_order (map picture_in l)) rebuilt ∙ shown in
+    let all : all_shown (part ∷ []) ≡ pictures = kept.same ∙ append-nil (part_shown_of a b T) ∙ ap (λ l. in_order (map rebuilt_picture l)) rebuilt ∙ shown in
     let fit : AllByRecursion FitsSequence (part ∷ []) = restricted_fit (T ∷ []) a b (fits, tt) in
     let shows : ShowsJust (sequences_bytes 0 (part ∷ [])) pictures = stream_shown written (part ∷ []) pictures (omega arith) kept.read fit all in
     let bytes : cut_bytes units a b ≡ sequences_bytes 0 (part ∷ []) = ap (λ ts. sequences_bytes 0 (with_pictures (map (restricted a b) ts))) one ∙ ap (sequences_bytes 0) parts in
@@ -555,7 +555,7 @@ encoded_by written plans law t pictures a m e is count =
     let many : 0 < length (all_rebuilt i a ys) = omega (arith, rebuilt_length ys i a, length-map ys shown_of, length_shown t pictures refs second, length_part t n a (suc m) some (omega (arith, count)), inside, some_pictures t some) in
     let begin : first_in ps ≡ Some (a * group_pictures t) = first_made t pictures refs second ∙ part_first t n a m in
     let own = own_order ps (a * group_pictures t) (min n ((a + suc m) * group_pictures t)) parts.second (omega (arith, is.below_2_31)) begin in
-    let shown : in_order (map picture_in (all_rebuilt i a ys)) ≡ of_groups t a (a + suc m) (reconstructions t pictures) =
+    let shown : in_order (map rebuilt_picture (all_rebuilt i a ys)) ≡ of_groups t a (a + suc m) (reconstructions t pictures) =
     ap in_order (pictures_made ys i a) ∙ sym own ∙ sym (groups_slice plans t pictures a (suc m) e is.accepted is.below_2_31 some count low) in
     part_stands written (stream_units t pictures) T a (a + suc m) (all_rebuilt i a ys) (of_groups t a (a + suc m) (reconstructions t pictures)) one read fits part many closed shown
 

@@ -11,7 +11,7 @@ use Rattle.dirac_plan.specs.declared.planned.Planned.{Planned}
 use Rattle.dirac_encode_laws.specs.Coding.{Job, Made, coded_under, job_of, made, own_index, refs_after, shown_of}
 use Rattle.dirac_encode_laws.specs.Laws.{AreMade}
 use Rattle.dirac_edit_laws.specs.Cut.{is_between}
-use Rattle.dirac_edit_laws.specs.Rebuilt.{AreRead, RebuiltText, picture_in, rebuilt_from}
+use Rattle.dirac_edit_laws.specs.Rebuilt.{AreRead, RebuiltText, rebuilt_picture, rebuilt_from}
 use Rattle.dirac_edit_laws.specs.Texts.{PictureText}
 use Rattle.dirac_edit_laws.proofs.Closed.{one_rebuilt}
 use Rattle.dirac_edit_laws.proofs.Parts.{filter_in, filter_out, is_among}
@@ -55,7 +55,7 @@ pub rebuilt_append : (xs ys : List Made) (index points : ℕ) → all_rebuilt in
 rebuilt_append [] ys index points = refl
 rebuilt_append (x ∷ xs) ys index points = ap (λ rs. rebuilt_made index points x ∷ rs) (rebuilt_append xs ys (suc (index_up index x)) (points_up points x))
 
-pub pictures_made : (ms : List Made) (index points : ℕ) → map picture_in (all_rebuilt index points ms) ≡ map shown_of ms
+pub pictures_made : (ms : List Made) (index points : ℕ) → map rebuilt_picture (all_rebuilt index points ms) ≡ map shown_of ms
 pictures_made [] index points = refl
 pictures_made (m ∷ ms) index points = ap (λ ps. m.shown ∷ ps) (pictures_made ms (suc (index_up index m)) (points_up points m))
 

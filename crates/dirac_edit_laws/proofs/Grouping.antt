@@ -7,7 +7,7 @@ use Rattle.std.proofs.lemmas.List.FromFn.{length-range_with_len}
 use Rattle.dirac_types.specs.declared.settings.Settings.{Settings}
 use Rattle.dirac_common.specs.Codes.{is_intra}
 use Rattle.dirac_plan.specs.declared.planned.Planned.{Planned}
-use Rattle.dirac_plan.specs.Plan.{anchor_of, anchor_offset, anchors_behind, between_of, group, group_at, group_count, retired_of, second_of, step}
+use Rattle.dirac_plan.specs.Plan.{anchor_of, anchor_offset, anchors_behind, between_of, group, group_at, group_count, retired_of, second_of_anchor, step}
 use Rattle.dirac_plan.proofs.Items.{each_of, each_once}
 use Rattle.dirac_plan.proofs.Numbers.{either, of_number, sum_groups}
 use Rattle.dirac_plan_laws.proofs.Each.{each_joined, each_mapped}
@@ -91,7 +91,7 @@ steps_inter s len first =
     each_joined IsInter (step s len first) 0 (anchors_behind s len) (λ k low high.
     let before = first + anchor_offset s len k in
     let after = first + anchor_offset s len (suc k) in (
-      anchor_inter after before (second_of s first k) (retired_of s len first k),
+      anchor_inter after before (second_of_anchor s first k) (retired_of s len first k),
       each_mapped IsInter (between_of s.references before after) (before + 1) (after - before - 1) (λ m low' high'. between_inter s.references before after m),
     ))
 

@@ -7,24 +7,24 @@ use Rattle.std.proofs.lemmas.Bool.{ltb-true}
 use Rattle.std.proofs.lemmas.Int.{ints}
 use Rattle.std.proofs.lemmas.List.{map-append}
 use Rattle.dirac_common.specs.declared.picture.Picture.{Picture}
-use Rattle.dirac_units.specs.Cut.{IsCut, after, start}
+use Rattle.dirac_units.specs.Cut.{IsCut, after, first_unit_place}
 use Rattle.dirac_units.specs.Writing.{IsReadAsWritten}
 use Rattle.dirac_sequence_header.specs.declared.sequence.Sequence.{Sequence}
 use Rattle.dirac_sequence_header.specs.Grammar.{sequence_read}
 use Rattle.dirac_refs.specs.declared.waiting.Waiting.{Waiting}
-use Rattle.dirac_refs.specs.Delivery.{flush, key_of}
+use Rattle.dirac_refs.specs.Delivery.{in_delivery_order, key_of}
 use Rattle.dirac_refs.specs.References.{as_reference}
 use Rattle.dirac_refs.proofs.Listed.{few_committed}
 use Rattle.dirac_plan_laws.proofs.Each.{each_append, each_drop}
 use Rattle.dirac_content.specs.Raw.{raw, raws}
 use Rattle.dirac_content.specs.Shown.{IsShown, Outcome, outcome}
-use Rattle.dirac_content.specs.StreamState.{begun, ended}
+use Rattle.dirac_content.specs.StreamState.{stream_begun, ended}
 use Rattle.dirac_encode_laws.specs.Stream.{end_info, end_unit}
 use Rattle.dirac_encode_laws.proofs.Cutting.{nothing_left}
 use Rattle.dirac_encode_laws.proofs.Showing.{outcome_more}
-use Rattle.dirac_edit_laws.specs.Joined.{Group, Keyed, bare, bytes_or_bare, first_number, group_of, groups_behind, groups_of, high, keyed_from, low, may_merge, merged, moved_key, number_of, renumbered, text_of}
+use Rattle.dirac_edit_laws.specs.Joined.{Group, Keyed, bare, bytes_or_bare, first_number, group_of, groups_behind, groups_of, high, keyed_from, low, may_merge, merged, moved_key, number_in_payload, renumbered, renumbered_text}
 use Rattle.dirac_edit_laws.specs.Laws.{JoinedStreamsShowTheSame, ShowsJust}
-use Rattle.dirac_edit_laws.specs.Rebuilt.{AreRead, IsRead, RebuiltText, all_shown, in_order, list_behind, picture_in, rebuilt_from, rebuilt_of, rebuilt_text, shown_of, waiting_from, with_keys}
+use Rattle.dirac_edit_laws.specs.Rebuilt.{AreRead, IsRead, RebuiltText, all_shown, in_order, list_behind, rebuilt_picture, rebuilt_from, rebuilt_of, rebuilt_text, sequence_shown, waiting_from, with_keys}
 use Rattle.dirac_edit_laws.specs.Texts.{PictureText, SequenceText, sequences, with_pictures}
 use Rattle.dirac_edit_laws.specs.Units.{end_for, pictures_bytes, sequences_bytes}
 use Rattle.dirac_edit_laws.proofs.Closed.{one_rebuilt}
@@ -75,7 +75,7 @@ few_behind (r ∷ rs) list few = few_behind rs (list_behind list r) (few_committ
 -- ---- a sequence moved on
 
 abbrev pictures_of : List RebuiltText → List Picture
-pictures_of rs = map picture_in rs
+pictures_of rs = map rebuilt_picture rs
 
 pictures_onward : (d : ℕ) (rs : List RebuiltText) → pictures_of (map (rebuilt_text_onward d) rs) ≡ map (picture_onward d) (pictures_of rs)
 pictures_onward d [] = refl
@@ -83,7 +83,7 @@ pictures_onward d (r ∷ rs) = ap (λ ps. picture_onward d r.picture ∷ ps) (pi
 
 -- the keys of these pictures, moved, are inside
 abbrev AreInside : ℕ → ℕ → List RebuiltText → Type 0
-AreInside first by rs = AllByRecursion (λ (r : RebuiltText). (key_of first (number_of r.text.payload) +ℤ pos by) ≤ℤ pos (2 ^ 31 - 1)) rs
+AreInside first by rs = AllByRecursion (λ (r : RebuiltText). (key_of first (number_in_payload r.text.payload) +ℤ pos by) ≤ℤ pos (2 ^ 31 - 1)) rs
 
 -- what is known of a later sequence behind a former one, whose keys are moved by so much
 record IsMoved (former first by : ℕ) (rs : List RebuiltText) : Type 0 where
@@ -91,14 +91,14 @@ record IsMoved (former first by : ℕ) (rs : List RebuiltText) : Type 0 where
   pub texts : map (renumbered former) (map (moved_key (pos by)) (map (keyed_from first) (map text_in rs))) ≡ map (text_onward (way former first by)) (map text_in rs)
   pub keys : map key_in (map (waiting_from former) (map (picture_onward (way former first by)) (pictures_of rs))) ≡ keys_in (map (moved_key (pos by)) (map (keyed_from first) (map text_in rs)))
 
-moved_one : (former first by : ℕ) (r : RebuiltText) → former < 2 ^ 32 → first < 2 ^ 32 → by < 2 ^ 31 → IsNumbered r → (key_of first (number_of r.text.payload) +ℤ pos by) ≤ℤ pos (2 ^ 31 - 1)
-    → NumberMoves former first by (number_of r.text.payload)
-moved_one former first by r f l less n inside = number_moves former first by (number_of r.text.payload) f l less inside
+moved_one : (former first by : ℕ) (r : RebuiltText) → former < 2 ^ 32 → first < 2 ^ 32 → by < 2 ^ 31 → IsNumbered r → (key_of first (number_in_payload r.text.payload) +ℤ pos by) ≤ℤ pos (2 ^ 31 - 1)
+    → NumberMoves former first by (number_in_payload r.text.payload)
+moved_one former first by r f l less n inside = number_moves former first by (number_in_payload r.text.payload) f l less inside
 
 is_moved : (rs : List RebuiltText) (former first by : ℕ) → former < 2 ^ 32 → first < 2 ^ 32 → by < 2 ^ 31 → AllByRecursion IsNumbered rs → AreInside first by rs → IsMoved former first by rs
 is_moved [] former first by f l less numbered inside = record { waits = refl; texts = refl; keys = refl }
 is_moved (r ∷ rs) former first by f l less numbered inside =
-    let n = number_of r.text.payload in
+    let n = number_in_payload r.text.payload in
     let d = way former first by in
     let m = moved_one former first by r f l less numbered.0 inside.0 in
     let rest = is_moved rs former first by f l less numbered.1 inside.1 in
@@ -119,7 +119,7 @@ bytes_below v = (omega arith, (omega arith, (omega arith, (omega arith, tt))))
 
 fits_onward : (d : ℕ) (p : PictureText) → 4 ≤ length p.payload → FitsPicture p → FitsPicture (text_onward d p)
 fits_onward d p long fits =
-    let n = onward d (number_of p.payload) in
+    let n = onward d (number_in_payload p.payload) in
     let front = to_be_bytes w32 n in
     let rest = drop 4 p.payload in
     let four : length front ≡ 4 = refl in
@@ -145,15 +145,15 @@ raws_onward d (p ∷ pictures) = ap (λ l. raw p ++ l) (raws_onward d pictures)
 
 -- its pictures, rebuilt
 abbrev rebuilt_in : Sequence → Group → List RebuiltText
-rebuilt_in s g = rebuilt_from s [] (text_of g).pictures
+rebuilt_in s g = rebuilt_from s [] (renumbered_text g).pictures
 
 pub record IsSound (g : Group) (bytes : List ℕ) : Type 0 where
   pub sequence : Sequence
   pub header : sequence_read g.header ≡ Ok sequence
   pub header_fits : Fits g.header
   pub small : g.first < 2 ^ 32
-  pub read : AreRead sequence [] (text_of g).pictures
-  pub fits : AllByRecursion FitsPicture (text_of g).pictures
+  pub read : AreRead sequence [] (renumbered_text g).pictures
+  pub fits : AllByRecursion FitsPicture (renumbered_text g).pictures
   pub first : first_in (pictures_of (rebuilt_in sequence g)) ≡ Some g.first
   pub keys : map key_in (with_keys (pictures_of (rebuilt_in sequence g))) ≡ keys_in g.pictures
   pub shown : raws (in_order (pictures_of (rebuilt_in sequence g))) ≡ bytes
@@ -211,7 +211,7 @@ record StandsBehind (s : Sequence) (former by : ℕ) (list : List Picture) (t : 
 -- keys of a sequence that lie inside, picture by picture
 inside_by : (rs : List RebuiltText) (first by : ℕ) (top : ℤ) → (top +ℤ pos by) ≤ℤ pos (2 ^ 31 - 1) → AreAtMost top (keys_in (map (keyed_from first) (map text_in rs))) → AreInside first by rs
 inside_by [] first by top most all = tt
-inside_by (r ∷ rs) first by top most all = (lower (key_of first (number_of r.text.payload)) top by all.0 most, inside_by rs first by top most all.1)
+inside_by (r ∷ rs) first by top most all = (lower (key_of first (number_in_payload r.text.payload)) top by all.0 most, inside_by rs first by top most all.1)
   where
     lower : (z top : ℤ) (by : ℕ) → z ≤ℤ top → (top +ℤ pos by) ≤ℤ pos (2 ^ 31 - 1) → (z +ℤ pos by) ≤ℤ pos (2 ^ 31 - 1)
     lower z top by low most = omega (arith, ints)
@@ -229,7 +229,7 @@ stands_behind s former by list t few small less fits o inside =
       texts = subst (λ (ps : List PictureText). map (renumbered former) (map (moved_key (pos by)) (map (keyed_from first) ps)) ≡ map (text_onward d) ps) o.texts m.texts;
       read = on.read;
       fits = subst (λ (ps : List PictureText). AllByRecursion FitsPicture (map (text_onward d) ps)) o.texts (all_fit_onward rs d o.numbered fit);
-      pictures = ap (map picture_in) on.same ∙ pictures_onward d rs;
+      pictures = ap (map rebuilt_picture) on.same ∙ pictures_onward d rs;
       waits = m.waits ∙ ap (map (waiting_onward (pos by) d)) (sym (keys_from first (pictures_of rs) o.first));
       keys = m.keys ∙ ap (λ ps. keys_in (map (moved_key (pos by)) (map (keyed_from first) ps))) o.texts;
     }
@@ -250,19 +250,19 @@ moved_none (k ∷ ks) = ap₂ (λ (z : ℤ) (l : List Keyed). let x : Keyed = re
 
 all_inside : (rs : List RebuiltText) (first : ℕ) → AreInside first 0 rs
 all_inside [] first = tt
-all_inside (r ∷ rs) first = (key_inside first (number_of r.text.payload), all_inside rs first)
+all_inside (r ∷ rs) first = (key_inside first (number_in_payload r.text.payload), all_inside rs first)
 
 way_none : (first : ℕ) → first < 2 ^ 32 → onward (way first first 0) first ≡ first
 way_none first small = omega arith
 
 -- what moved pictures show, raw
-moved_shown : (by d : ℕ) (ws' ws : List Waiting) → ws' ≡ map (waiting_onward (pos by) d) ws → raws (flush ws') ≡ raws (flush ws)
-moved_shown by d ws' ws is = ap (λ l. raws (flush l)) is ∙ ap raws (flush_moved (pos by) (picture_onward d) ws) ∙ raws_onward d (flush ws)
+moved_shown : (by d : ℕ) (ws' ws : List Waiting) → ws' ≡ map (waiting_onward (pos by) d) ws → raws (in_delivery_order ws') ≡ raws (in_delivery_order ws)
+moved_shown by d ws' ws is = ap (λ l. raws (in_delivery_order l)) is ∙ ap raws (flush_moved (pos by) (picture_onward d) ws) ∙ raws_onward d (in_delivery_order ws)
 
-shown_as : (s : Sequence) (t : SequenceText) → sequence_read t.header ≡ Ok s → shown_of t ≡ flush (with_keys (pictures_of (rebuilt_from s [] t.pictures)))
-shown_as s t is = ap (λ rs. flush (with_keys (pictures_of rs))) (rebuilt_is s t is)
+shown_as : (s : Sequence) (t : SequenceText) → sequence_read t.header ≡ Ok s → sequence_shown t ≡ in_delivery_order (with_keys (pictures_of (rebuilt_from s [] t.pictures)))
+shown_as s t is = ap (λ rs. in_delivery_order (with_keys (pictures_of rs))) (rebuilt_is s t is)
 
-pub own_sound : (t : SequenceText) → IsFull t → IsSound (group_of t) (raws (shown_of t))
+pub own_sound : (t : SequenceText) → IsFull t → IsSound (group_of t) (raws (sequence_shown t))
 own_sound t f =
     let s = f.read.sequence in
     let first = first_number t.pictures in
@@ -271,7 +271,7 @@ own_sound t f =
     let rs = rebuilt_from s [] t.pictures in
     let b = stands_behind s first 0 [] t (omega arith) o.small (omega arith) f.fits o (all_inside rs first) in
     let qs = map (text_onward d) t.pictures in
-    let texts : (text_of (group_of t)).pictures ≡ qs = ap (map (renumbered first)) (sym (moved_none (group_of t).pictures)) ∙ b.texts in
+    let texts : (renumbered_text (group_of t)).pictures ≡ qs = ap (map (renumbered first)) (sym (moved_none (group_of t).pictures)) ∙ b.texts in
     let ps = pictures_of (rebuilt_from s [] qs) in
     let now : pictures_of (rebuilt_in s (group_of t)) ≡ ps = ap (λ l. pictures_of (rebuilt_from s [] l)) texts in
     let begin : first_in ps ≡ Some first = ap first_in b.pictures ∙ first_onward d (pictures_of rs) first o.first ∙ ap Some (way_none first o.small) in
@@ -322,7 +322,7 @@ own_as t s' s o is =
     let same' : s' ≡ s = cc in
     subst (IsOwn t) same' o
 
-pub merge_sound : (g : Group) (bytes : List ℕ) (t : SequenceText) → IsSound g bytes → IsFull t → may_merge g (group_of t) ≡ true → IsSound (merged g (group_of t)) (bytes ++ raws (shown_of t))
+pub merge_sound : (g : Group) (bytes : List ℕ) (t : SequenceText) → IsSound g bytes → IsFull t → may_merge g (group_of t) ≡ true → IsSound (merged g (group_of t)) (bytes ++ raws (sequence_shown t))
 merge_sound g bytes t i f is =
     let l = group_of t in
     let m : Merges g l = merges g l is in
@@ -339,15 +339,15 @@ merge_sound g bytes t i f is =
     subst (λ (ps : List PictureText). AreAtMost (high l.pictures) (keys_in (map (keyed_from first) ps))) (sym o.texts) (below_high l.pictures (high l.pictures) (at_most_itself (high l.pictures))) in
     let b = stands_behind s g.first m.by list t few i.small m.less f.fits o (inside_by rs first m.by (high l.pictures) m.inside most) in
     let qs = map (text_onward d) t.pictures in
-    let front = (text_of g).pictures in
-    let texts : (text_of (merged g l)).pictures ≡ front ++ qs =
+    let front = (renumbered_text g).pictures in
+    let texts : (renumbered_text (merged g l)).pictures ≡ front ++ qs =
     ap (λ z. map (renumbered g.first) (g.pictures ++ map (moved_key z) l.pictures)) m.is
     ∙ map-append (renumbered g.first) g.pictures (map (moved_key (pos m.by)) l.pictures) ∙ ap (λ x. front ++ x) b.texts in
     let rb = read_behind front s [] qs i.read b.read in
     let ps = pictures_of before in
     let later = map (picture_onward d) (pictures_of rs) in
     let now : pictures_of (rebuilt_in s (merged g l)) ≡ ps ++ later =
-    ap (λ x. pictures_of (rebuilt_from s [] x)) texts ∙ ap pictures_of rb.same ∙ map-append picture_in before (rebuilt_from s list qs) ∙ ap (λ x. ps ++ x) b.pictures in
+    ap (λ x. pictures_of (rebuilt_from s [] x)) texts ∙ ap pictures_of rb.same ∙ map-append rebuilt_picture before (rebuilt_from s list qs) ∙ ap (λ x. ps ++ x) b.pictures in
     let a = appended_keys g s ps later g.first i.first in
     let ws = map (waiting_from g.first) later in
     let top = high g.pictures in
@@ -369,9 +369,9 @@ merge_sound g bytes t i f is =
           ∙ sym (map-append (λ (k : Keyed). k.key) g.pictures (map (moved_key (pos m.by)) l.pictures))
           ∙ ap (λ z. keys_in (g.pictures ++ map (moved_key z) l.pictures)) (sym m.is);
       shown =
-          ap (λ x. raws (in_order x)) now ∙ ap (λ x. raws (flush x)) a.waits
+          ap (λ x. raws (in_order x)) now ∙ ap (λ x. raws (in_delivery_order x)) a.waits
           ∙ ap raws (later_leave_later (with_keys ps) ws order)
-          ∙ raws_front (flush (with_keys ps)) (flush ws)
+          ∙ raws_front (in_delivery_order (with_keys ps)) (in_delivery_order ws)
           ∙ ap₂ (λ (x y : List ℕ). x ++ y) i.shown (moved_shown m.by d ws (with_keys (pictures_of rs)) b.waits ∙ sym (ap raws (shown_as s t read_header)));
     }
 
@@ -379,19 +379,19 @@ merge_sound g bytes t i f is =
 
 -- joined sequences that are read and show these raw pictures
 pub record AreSound (gs : List Group) (bytes : List ℕ) : Type 0 where
-  pub read : AllByRecursion IsRead (map text_of gs)
-  pub fits : AllByRecursion FitsSequence (map text_of gs)
-  pub shown : raws (all_shown (map text_of gs)) ≡ bytes
-  pub some : 0 < length (map text_of gs)
+  pub read : AllByRecursion IsRead (map renumbered_text gs)
+  pub fits : AllByRecursion FitsSequence (map renumbered_text gs)
+  pub shown : raws (all_shown (map renumbered_text gs)) ≡ bytes
+  pub some : 0 < length (map renumbered_text gs)
 
-one_sound : (g : Group) (bytes : List ℕ) (gs : List Group) (more : List ℕ) → IsSound g bytes → AllByRecursion IsRead (map text_of gs) → AllByRecursion FitsSequence (map text_of gs) → raws (all_shown (map text_of gs)) ≡ more
+one_sound : (g : Group) (bytes : List ℕ) (gs : List Group) (more : List ℕ) → IsSound g bytes → AllByRecursion IsRead (map renumbered_text gs) → AllByRecursion FitsSequence (map renumbered_text gs) → raws (all_shown (map renumbered_text gs)) ≡ more
     → AreSound (g ∷ gs) (bytes ++ more)
 one_sound g bytes gs more i read fits shown = record {
   read = (record { sequence = i.sequence; header = i.header; pictures = i.read }, read);
   fits = (record { header = i.header_fits; pictures = i.fits }, fits);
   shown =
-      raws_front (shown_of (text_of g)) (all_shown (map text_of gs))
-      ∙ ap₂ (λ (x y : List ℕ). x ++ y) (ap raws (shown_as i.sequence (text_of g) i.header) ∙ i.shown) shown;
+      raws_front (sequence_shown (renumbered_text g)) (all_shown (map renumbered_text gs))
+      ∙ ap₂ (λ (x y : List ℕ). x ++ y) (ap raws (shown_as i.sequence (renumbered_text g) i.header) ∙ i.shown) shown;
   some = omega arith;
 }
 
@@ -400,15 +400,15 @@ unfolding groups_behind
 groups_sound [] now bytes i all = one_sound now bytes [] [] i tt tt refl
 groups_sound (t ∷ ts) now bytes i all =
     let rest = map group_of ts in
-    let shown : bytes ++ raws (all_shown (t ∷ ts)) ≡ bytes ++ (raws (shown_of t) ++ raws (all_shown ts)) = ap (λ x. bytes ++ x) (raws_front (shown_of t) (all_shown ts)) in
+    let shown : bytes ++ raws (all_shown (t ∷ ts)) ≡ bytes ++ (raws (sequence_shown t) ++ raws (all_shown ts)) = ap (λ x. bytes ++ x) (raws_front (sequence_shown t) (all_shown ts)) in
     subst (AreSound (groups_behind now (map group_of (t ∷ ts)))) (sym shown)
-    (elim (may_merge now (group_of t)) as (λ b. may_merge now (group_of t) ≡ b → AreSound (if b then groups_behind (merged now (group_of t)) rest else now ∷ groups_behind (group_of t) rest) (bytes ++ (raws (shown_of t) ++ raws (all_shown ts)))) [
+    (elim (may_merge now (group_of t)) as (λ b. may_merge now (group_of t) ≡ b → AreSound (if b then groups_behind (merged now (group_of t)) rest else now ∷ groups_behind (group_of t) rest) (bytes ++ (raws (sequence_shown t) ++ raws (all_shown ts)))) [
       | true ↦ λ is.
-          subst (AreSound (groups_behind (merged now (group_of t)) rest)) (append_assoc bytes (raws (shown_of t)) (raws (all_shown ts)))
-          (groups_sound ts (merged now (group_of t)) (bytes ++ raws (shown_of t)) (merge_sound now bytes t i all.0 is) all.1)
+          subst (AreSound (groups_behind (merged now (group_of t)) rest)) (append_assoc bytes (raws (sequence_shown t)) (raws (all_shown ts)))
+          (groups_sound ts (merged now (group_of t)) (bytes ++ raws (sequence_shown t)) (merge_sound now bytes t i all.0 is) all.1)
       | false ↦ λ is.
-          let later = groups_sound ts (group_of t) (raws (shown_of t)) (own_sound t all.0) all.1 in
-          one_sound now bytes (groups_behind (group_of t) rest) (raws (shown_of t) ++ raws (all_shown ts)) i later.read later.fits later.shown
+          let later = groups_sound ts (group_of t) (raws (sequence_shown t)) (own_sound t all.0) all.1 in
+          one_sound now bytes (groups_behind (group_of t) rest) (raws (sequence_shown t) ++ raws (all_shown ts)) i later.read later.fits later.shown
     ] refl)
 
 -- ---- the whole stream
@@ -426,14 +426,14 @@ bare_shown : IsReadAsWritten → (ts : List SequenceText) → AllByRecursion IsR
 unfolding outcome sequences_bytes pictures_bytes AreRead rebuilt_of rebuilt_from
 bare_shown written [] read fits =
     let units = end_for 0 ∷ [] in
-    let cut : IsCut start (end_unit 0) units None = subst (λ (l : List ℕ). IsCut start l units None) (append-nil (end_unit 0)) (end_cut written 0 start [] [] (omega arith) (nothing_left (after start (end_info 0)) refl)) in
-    let step = outcome_more begun start (end_for 0) [] (ended begun) (end_moves begun 0x10 [] refl) in
-    (outcome begun start units None, record { units = units; end = None; cut = cut; same = refl }, ap (λ (o : Outcome). o.shown) step, ap (λ (o : Outcome). o.end) step)
+    let cut : IsCut first_unit_place (end_unit 0) units None = subst (λ (l : List ℕ). IsCut first_unit_place l units None) (append-nil (end_unit 0)) (end_cut written 0 first_unit_place [] [] (omega arith) (nothing_left (after first_unit_place (end_info 0)) refl)) in
+    let step = outcome_more stream_begun first_unit_place (end_for 0) [] (ended stream_begun) (end_moves stream_begun 0x10 [] refl) in
+    (outcome stream_begun first_unit_place units None, record { units = units; end = None; cut = cut; same = refl }, ap (λ (o : Outcome). o.shown) step, ap (λ (o : Outcome). o.end) step)
 bare_shown written (t ∷ ts) read fits =
     let alone : SequenceText = record { header = t.header; pictures = [] } in
     let one : IsRead alone = record { sequence = read.0.sequence; header = read.0.header; pictures = tt } in
     let fit : FitsSequence alone = record { header = fits.0.header; pictures = tt } in
-    let shown : all_shown (alone ∷ []) ≡ [] = append-nil (shown_of alone) ∙ shown_as read.0.sequence alone read.0.header in
+    let shown : all_shown (alone ∷ []) ≡ [] = append-nil (sequence_shown alone) ∙ shown_as read.0.sequence alone read.0.header in
     let whole : sequences_bytes 0 (alone ∷ []) ≡ bare (t ∷ ts) = append-nil (bare (t ∷ ts)) in
     subst (λ (l : List ℕ). ShowsJust l []) whole (stream_shown written (alone ∷ []) [] (omega arith) (one, tt) (fit, tt) shown)
 
@@ -444,19 +444,19 @@ ShowsRaw bytes raw = (o : Outcome) × IsShown bytes o × (raws o.shown ≡ raw) 
 raw_shown : (bytes raw : List ℕ) (pictures : List Picture) → ShowsJust bytes pictures → raws pictures ≡ raw → ShowsRaw bytes raw
 raw_shown bytes raw pictures shows is = (shows.0, shows.1, ap raws shows.2 ∙ is, shows.3)
 
-some_joined : IsReadAsWritten → (all : List SequenceText) (gs : List Group) (bytes : List ℕ) → AreSound gs bytes → ShowsRaw (bytes_or_bare all (map text_of gs)) bytes
+some_joined : IsReadAsWritten → (all : List SequenceText) (gs : List Group) (bytes : List ℕ) → AreSound gs bytes → ShowsRaw (bytes_or_bare all (map renumbered_text gs)) bytes
 some_joined written all [] bytes a = absurd (omega (arith, a.some))
 some_joined written all (g ∷ gs) bytes a =
-    let ts = map text_of (g ∷ gs) in
+    let ts = map renumbered_text (g ∷ gs) in
     raw_shown (sequences_bytes 0 ts) bytes (all_shown ts) (stream_shown written ts (all_shown ts) a.some a.read a.fits refl) a.shown
 
-joined_by : IsReadAsWritten → (all full : List SequenceText) → AllByRecursion IsRead all → AllByRecursion FitsSequence all → AllByRecursion IsFull full → ShowsRaw (bytes_or_bare all (map text_of (groups_of (map group_of full)))) (raws (all_shown full))
+joined_by : IsReadAsWritten → (all full : List SequenceText) → AllByRecursion IsRead all → AllByRecursion FitsSequence all → AllByRecursion IsFull full → ShowsRaw (bytes_or_bare all (map renumbered_text (groups_of (map group_of full)))) (raws (all_shown full))
 joined_by written all [] read fits each = raw_shown (bare all) [] [] (bare_shown written all read fits) refl
 joined_by written all (t ∷ full) read fits each =
-    let a = groups_sound full (group_of t) (raws (shown_of t)) (own_sound t each.0) each.1 in
-    let same : raws (shown_of t) ++ raws (all_shown full) ≡ raws (all_shown (t ∷ full)) = sym (raws_front (shown_of t) (all_shown full)) in
-    subst (ShowsRaw (bytes_or_bare all (map text_of (groups_behind (group_of t) (map group_of full))))) same
-    (some_joined written all (groups_behind (group_of t) (map group_of full)) (raws (shown_of t) ++ raws (all_shown full)) a)
+    let a = groups_sound full (group_of t) (raws (sequence_shown t)) (own_sound t each.0) each.1 in
+    let same : raws (sequence_shown t) ++ raws (all_shown full) ≡ raws (all_shown (t ∷ full)) = sym (raws_front (sequence_shown t) (all_shown full)) in
+    subst (ShowsRaw (bytes_or_bare all (map renumbered_text (groups_behind (group_of t) (map group_of full))))) same
+    (some_joined written all (groups_behind (group_of t) (map group_of full)) (raws (sequence_shown t) ++ raws (all_shown full)) a)
 
 -- the law
 pub joins_shown : IsReadAsWritten → JoinedStreamsShowTheSame
@@ -464,7 +464,7 @@ unfolding FitsOpen
 joins_shown written bytes units f =
     let ts = sequences units in
     let all = units_shown units f.none in
-    let fits = texts_fit units 0 0 None (units_fit units start bytes None f.below f.cut) tt in
+    let fits = texts_fit units 0 0 None (units_fit units first_unit_place bytes None f.below f.cut) tt in
     let same = same_with_pictures ts all.0 in
     let shows = joined_by written ts (with_pictures ts) all.0 fits (each_full ts all.0 fits) in
     (shows.0, shows.1, shows.2 ∙ ap raws (same.same ∙ sym all.1), shows.3)

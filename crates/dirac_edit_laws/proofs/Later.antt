@@ -7,7 +7,7 @@ use Rattle.std.proofs.lemmas.Int.{ints}
 use Rattle.std.proofs.lemmas.List.Elements.{All-append, All-drop, All-take, All-cons, All-nil, All-get_or}
 use Rattle.dirac_common.specs.declared.picture.Picture.{Picture}
 use Rattle.dirac_refs.specs.declared.waiting.Waiting.{Waiting}
-use Rattle.dirac_refs.specs.Delivery.{Leaving, delivered, flush, flushed, flushed_by, key_at, key_in, least, least_among, least_place, others, picture_of, pushed_all}
+use Rattle.dirac_refs.specs.Delivery.{Leaving, delivered, in_delivery_order, flushed, flushed_by, key_at, key_in, least, least_among, least_place, others, picture_of, pushed_all}
 use Rattle.dirac_refs.proofs.Least.{is_least, leaves_first}
 use Rattle.dirac_content.specs.Sequences.{flushed_behind}
 use Rattle.dirac_content.proofs.Flushing.{pushed_append}
@@ -214,9 +214,9 @@ later_leave_later former later order =
     let second = pushed_all first.waiting later in
     let waits : AreNotBefore later first.waiting = all_pushed (λ (x : Waiting). All (λ (y : Waiting). x.key ≤ℤ y.key) later) former [] (All-nil (λ (x : Waiting). All (λ (y : Waiting). x.key ≤ℤ y.key) later)) order in
     let few : length (first.waiting ++ []) ≤ 4 = subst (λ (l : List Waiting). length l ≤ 4) (sym (append-nil first.waiting)) (few_wait former [] (omega arith)) in
-    let parted : flushed_behind first.waiting later ≡ flushed first.waiting ++ flush later =
+    let parted : flushed_behind first.waiting later ≡ flushed first.waiting ++ in_delivery_order later =
     ap (λ (l : List Waiting). flushed_behind l later) (sym (append-nil first.waiting)) ∙ splits later first.waiting [] few waits in
     ap (λ (l : Leaving). l.gone ++ flushed l.waiting) (pushed_append [] former later)
     ∙ append_assoc first.gone second.gone (flushed second.waiting)
     ∙ ap (λ (l : List Picture). first.gone ++ l) parted
-    ∙ sym (append_assoc first.gone (flushed first.waiting) (flush later))
+    ∙ sym (append_assoc first.gone (flushed first.waiting) (in_delivery_order later))

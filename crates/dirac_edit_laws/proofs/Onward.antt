@@ -25,7 +25,7 @@ use Rattle.dirac_header.specs.Header.{header, moved_by, reference, retired_by, r
 use Rattle.dirac_picture.specs.declared.coded.CodedPicture.{CodedPicture}
 use Rattle.dirac_picture.specs.Grammar.{are_listed, body, motion, picture, picture_read, residual_unless, zero_residual}
 use Rattle.dirac_picture.proofs.Every.{Every, every_any, every_then}
-use Rattle.dirac_edit_laws.specs.Joined.{number_of}
+use Rattle.dirac_edit_laws.specs.Joined.{number_in_payload}
 use Rattle.dirac_edit_laws.proofs.Alike.{behind_gap, body_header, with_residual}
 use Rattle.dirac_edit_laws.proofs.Spelled.{SpellsAs, every_more, every_spelled, spells_as}
 
@@ -262,11 +262,11 @@ written_bits v = refl
 
 -- the payload of a picture whose number is moved on
 abbrev pub payload_onward : ℕ → List ℕ → List ℕ
-payload_onward d payload = to_be_bytes w32 (onward d (number_of payload)) ++ drop 4 payload
+payload_onward d payload = to_be_bytes w32 (onward d (number_in_payload payload)) ++ drop 4 payload
 
 -- the number that a payload begins with, and the bits behind it
 record Splits (payload : List ℕ) (number : ℕ) (more : List Bool) : Type 0 where
-  pub number_is : number_of payload ≡ number
+  pub number_is : number_in_payload payload ≡ number
   pub behind : bits_of (drop 4 payload) ≡ more
   pub long : 4 ≤ length payload
 
@@ -279,7 +279,7 @@ splits_by payload number more f below small e long =
     let last : bits_of f.rest ≡ more = sym (drop_at (bits_of front) (bits_of f.rest) 32 refl) ∙ ap (drop 32) e' ∙ drop_at (literal number) more 32 (length-literal number) in
     record {
       number_is =
-          ap number_of f.is ∙ bytes_value f.a f.b f.c f.d all.0 all.1.0 all.1.1.0 all.1.1.1.0
+          ap number_in_payload f.is ∙ bytes_value f.a f.b f.c f.d all.0 all.1.0 all.1.1.0 all.1.1.1.0
           ∙ ap (number_from 0) first ∙ literal_value number small;
       behind = ap (λ l. bits_of (drop 4 l)) f.is ∙ last;
       long = long;
@@ -295,8 +295,8 @@ splits payload number more below small e =
 -- a picture that is read with the list of a part, with its numbers moved on
 pub record IsReadOnward (code : ℕ) (s : Sequence) (whole : List Picture) (payload : List ℕ) (d : ℕ) (coded : CodedPicture) : Type 0 where
   pub read : picture_read code s whole (payload_onward d payload) ≡ Ok (coded_onward d coded)
-  pub number : coded.header.number ≡ number_of payload
-  pub small : number_of payload < 2 ^ 32
+  pub number : coded.header.number ≡ number_in_payload payload
+  pub small : number_in_payload payload < 2 ^ 32
   pub long : 4 ≤ length payload
   pub retires : IsBelow coded.header.retire
 
@@ -313,9 +313,9 @@ read_onward code s inside whole payload d coded below lists is =
     let rest' = header_as code b.number d (behind_header code s inside) (behind_header code s whole) coded x' (λ h. found_as code s inside whole d coded h lists) 32 b.more b.rest in
     let spells' = begun_as code s whole x' n' b.more small' rest' in
     let bytes = payload_onward d payload in
-    let same : onward d (number_of payload) ≡ n' = ap (onward d) split.number_is in
+    let same : onward d (number_in_payload payload) ≡ n' = ap (onward d) split.number_is in
     let bits : bits_of bytes ≡ (literal n' ++ b.more) ++ p.rest =
-    bits_of-append (to_be_bytes w32 (onward d (number_of payload))) (drop 4 payload)
+    bits_of-append (to_be_bytes w32 (onward d (number_in_payload payload))) (drop 4 payload)
     ∙ ap₂ (λ (a : ℕ) (l : List Bool). bits_of (to_be_bytes w32 a) ++ l) same split.behind
     ∙ ap (λ l. l ++ (b.more ++ p.rest)) (written_bits n')
     ∙ sym (append_assoc (literal n') b.more p.rest) in

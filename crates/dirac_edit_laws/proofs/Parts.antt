@@ -12,10 +12,10 @@ use Rattle.dirac_refs.proofs.Listed.{few_committed}
 use Rattle.dirac_picture.specs.declared.coded.CodedPicture.{CodedPicture}
 use Rattle.dirac_picture.specs.Grammar.{picture_read}
 use Rattle.dirac_plan_laws.proofs.Each.{each_append}
-use Rattle.dirac_edit_laws.specs.Cut.{first_of, is_between, open_among, open_from, part_rebuilt, part_shown_of, restricted}
-use Rattle.dirac_edit_laws.specs.Rebuilt.{AreRead, IsRead, RebuiltText, all_shown, in_order, list_behind, picture_in, rebuilt_behind, rebuilt_from, rebuilt_of, rebuilt_text, shown_of}
+use Rattle.dirac_edit_laws.specs.Cut.{first_answer, is_between, open_among, open_from, part_rebuilt, part_shown_of, restricted}
+use Rattle.dirac_edit_laws.specs.Rebuilt.{AreRead, IsRead, RebuiltText, all_shown, in_order, list_behind, rebuilt_picture, rebuilt_behind, rebuilt_from, rebuilt_of, rebuilt_text, sequence_shown}
 use Rattle.dirac_edit_laws.specs.Restricted.{IsRestricted}
-use Rattle.dirac_edit_laws.specs.Texts.{PictureText, SequenceText, closed_off, opened_by, picture_text, points_with, sequences_from, with_picture, with_pictures}
+use Rattle.dirac_edit_laws.specs.Texts.{PictureText, SequenceText, closed_off, opened_by, picture_text_at, points_up_to, sequences_from, with_picture_text, with_pictures}
 use Rattle.dirac_edit_laws.proofs.Closed.{OpensLater, IsAlikeBehind, alike_behind, one_rebuilt, opens_later}
 use Rattle.dirac_edit_laws.proofs.UnitKinds.{behind_end, behind_header, behind_other, behind_picture, kind_of, of_end, of_header, of_other, of_picture}
 use Rattle.dirac_edit_laws.proofs.Restricted.{none_yet}
@@ -50,12 +50,12 @@ unfolding RisesOpen Rises
 opened_rises points None payload is = omega arith
 opened_rises points (Some t) payload is = is
 
-picture_rises : (points : ℕ) (now : Option SequenceText) (p : PictureText) → points ≤ p.points → RisesOpen points now → RisesOpen p.points (with_picture now p)
+picture_rises : (points : ℕ) (now : Option SequenceText) (p : PictureText) → points ≤ p.points → RisesOpen points now → RisesOpen p.points (with_picture_text now p)
 unfolding RisesOpen
 picture_rises points None p more is = tt
 picture_rises points (Some t) p more is = rises_on t.pictures 0 points p more is
 
-points_rise : (points : ℕ) (u : UnitText) → points ≤ points_with points u
+points_rise : (points : ℕ) (u : UnitText) → points ≤ points_up_to points u
 points_rise points u = rise (is_intra u.info.code) points
   where
     rise : (b : Bool) (points : ℕ) → points ≤ (if b then suc points else points)
@@ -69,9 +69,9 @@ texts_rise (u ∷ units) index points now is = elim (kind_of u.info.code) [
   | of_header e ↦ subst (AllByRecursion RisesAll) (sym (behind_header index points now u units e)) (texts_rise units (suc index) points (opened_by now u.payload) (opened_rises points now u.payload is))
   | of_end e ↦ subst (AllByRecursion RisesAll) (sym (behind_end index points now u units e)) (each_append RisesAll (closed_off now) (sequences_from (suc index) points None units) (closed_rises points now is) (texts_rise units (suc index) points None tt))
   | of_picture a b c e ↦
-      let up_to = points_with points u in
-      let p = picture_text index up_to u in
-      subst (AllByRecursion RisesAll) (sym (behind_picture index points now u units a b c)) (texts_rise units (suc index) up_to (with_picture now p) (picture_rises points now p (points_rise points u) is))
+      let up_to = points_up_to points u in
+      let p = picture_text_at index up_to u in
+      subst (AllByRecursion RisesAll) (sym (behind_picture index points now u units a b c)) (texts_rise units (suc index) up_to (with_picture_text now p) (picture_rises points now p (points_rise points u) is))
   | of_other a b c d ↦ subst (AllByRecursion RisesAll) (sym (behind_other index points now u units a b c)) (texts_rise units (suc index) points now is)
 ]
 
@@ -227,10 +227,10 @@ unfolding rebuilt_from
 none_rebuilt s = refl
 
 -- a part without pictures shows none
-none_shown : (t : SequenceText) → IsRead t → nat_lt 0 (length t.pictures) ≡ false → shown_of t ≡ []
+none_shown : (t : SequenceText) → IsRead t → nat_lt 0 (length t.pictures) ≡ false → sequence_shown t ≡ []
 none_shown t read none =
     let nothing : t.pictures ≡ [] = empty t.pictures none in
-    ap (λ rs. in_order (map picture_in rs)) (rebuilt_is read.sequence t read.header ∙ ap (rebuilt_from read.sequence []) nothing ∙ none_rebuilt read.sequence)
+    ap (λ rs. in_order (map rebuilt_picture rs)) (rebuilt_is read.sequence t read.header ∙ ap (rebuilt_from read.sequence []) nothing ∙ none_rebuilt read.sequence)
   where
     empty : (ps : List PictureText) → nat_lt 0 (length ps) ≡ false → ps ≡ []
     empty [] e = refl
@@ -242,7 +242,7 @@ pub record IsSameWith (ts : List SequenceText) : Type 0 where
   pub same : all_shown (with_pictures ts) ≡ all_shown ts
 
 with_one : (t : SequenceText) (ts : List SequenceText) (b : Bool) → nat_lt 0 (length t.pictures) ≡ b → IsRead t → IsSameWith ts → AllByRecursion IsRead (if b then t ∷ with_pictures ts else with_pictures ts) × (all_shown (if b then t ∷ with_pictures ts else with_pictures ts) ≡ all_shown (t ∷ ts))
-with_one t ts true e read rest = ((read, rest.read), ap (λ l. shown_of t ++ l) rest.same)
+with_one t ts true e read rest = ((read, rest.read), ap (λ l. sequence_shown t ++ l) rest.same)
 with_one t ts false e read rest = (rest.read, rest.same ∙ ap (λ l. l ++ all_shown ts) (sym (none_shown t read e)))
 
 pub same_with_pictures : (ts : List SequenceText) → AllByRecursion IsRead ts → IsSameWith ts
@@ -257,7 +257,7 @@ pub record AreAllKept (a b : ℕ) (ts : List SequenceText) : Type 0 where
   pub same : all_shown (map (restricted a b) ts) ≡ flat_map (part_shown_of a b) ts
   pub each : AllByRecursion (λ (t : SequenceText). rebuilt_of (restricted a b t) ≡ part_rebuilt a b t) ts
 
-first_none : (first second : Option ℕ) → first_of first second ≡ None → (first ≡ None) × (second ≡ None)
+first_none : (first second : Option ℕ) → first_answer first second ≡ None → (first ≡ None) × (second ≡ None)
 first_none None second is = (refl, is)
 first_none (Some n) second is = absurd cc
 
@@ -270,6 +270,6 @@ all_kept (t ∷ ts) a b all rise closed =
     let rest = all_kept ts a b all.1 rise.1 both.1 in
     record {
       read = (one.read, rest.read);
-      same = ap₂ (λ (rs : List RebuiltText) (l : List Picture). in_order (map picture_in rs) ++ l) one.same rest.same;
+      same = ap₂ (λ (rs : List RebuiltText) (l : List Picture). in_order (map rebuilt_picture rs) ++ l) one.same rest.same;
       each = (one.same, rest.each);
     }

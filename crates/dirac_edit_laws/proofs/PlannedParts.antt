@@ -10,7 +10,7 @@ use Rattle.dirac_common.specs.declared.picture.Picture.{Picture}
 use Rattle.dirac_types.specs.declared.settings.Settings.{Settings}
 use Rattle.dirac_common.specs.declared.codes.TheConstants.{INTRA_REFERENCE}
 use Rattle.dirac_plan.specs.declared.planned.Planned.{Planned}
-use Rattle.dirac_plan.specs.Plan.{anchor_of, anchor_offset, anchors_behind, between_of, field_of, field_or_first, fields_of, frames_plan, group, group_at, group_count, opening_of, plan, retired_of, second_of, step}
+use Rattle.dirac_plan.specs.Plan.{anchor_of, anchor_offset, anchors_behind, between_of, field_of, field_or_first, fields_of, frames_plan, group, group_at, group_count, opening_of, plan, retired_of, second_of_anchor, step}
 use Rattle.dirac_plan.specs.Planning.{group_pictures}
 use Rattle.dirac_plan.proofs.Anchors.{uncovered}
 use Rattle.dirac_plan.proofs.Lists.{range_split}
@@ -283,7 +283,7 @@ steps_from s len first low up =
     each_joined (IsFrom low) (step s len first) 0 (anchors_behind s len) (λ k least most.
     let before = first + anchor_offset s len k in
     let after = first + anchor_offset s len (suc k) in (
-      anchor_from low after before (second_of s first k) (retired_of s len first k) (omega (arith, up)) (omega (arith, up))
+      anchor_from low after before (second_of_anchor s first k) (retired_of s len first k) (omega (arith, up)) (omega (arith, up))
           (either (s.references == 2 && nat_le 1 k) (λ o. IfSome o (λ r. low ≤ r)) (Some first) None up tt),
       each_mapped (IsFrom low) (between_of s.references before after) (before + 1) (after - before - 1)
           (λ m least' most'. between_from low s.references before after m (omega (arith, up, least')) (omega (arith, up)) (omega (arith, up))),

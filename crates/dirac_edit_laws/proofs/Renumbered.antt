@@ -21,7 +21,7 @@ use Rattle.dirac_picture.specs.Grammar.{are_listed, picture_read}
 use Rattle.dirac_plan_laws.proofs.Each.{each_append, each_drop}
 use Rattle.dirac_content.specs.Content.{named, plane_samples, predicted_among, rebuilt, residual_among, samples_from}
 use Rattle.dirac_synthesis.specs.Residual.{clipped, with_prediction}
-use Rattle.dirac_edit_laws.specs.Joined.{number_of}
+use Rattle.dirac_edit_laws.specs.Joined.{number_in_payload}
 use Rattle.dirac_edit_laws.specs.Rebuilt.{AreRead, RebuiltText, list_behind, rebuilt_from, rebuilt_text}
 use Rattle.dirac_edit_laws.specs.Restricted.{IsRestricted}
 use Rattle.dirac_edit_laws.specs.Texts.{PictureText}
@@ -206,8 +206,8 @@ rebuilt_text_onward d r = record { text = text_onward d r.text; coded = coded_on
 
 -- it has the number that its payload begins with
 pub record IsNumbered (r : RebuiltText) : Type 0 where
-  pub number : r.picture.number ≡ number_of r.text.payload
-  pub small : number_of r.text.payload < 2 ^ 32
+  pub number : r.picture.number ≡ number_in_payload r.text.payload
+  pub small : number_in_payload r.text.payload < 2 ^ 32
   pub long : 4 ≤ length r.text.payload
 
 pub record OneOnward (s : Sequence) (d : ℕ) (inside whole : List Picture) (p : PictureText) (coded : CodedPicture) : Type 0 where

@@ -7,7 +7,7 @@ use Rattle.std.proofs.lemmas.List.{length-map, map-append}
 use Rattle.std.proofs.lemmas.Option.{slice_get-map}
 use Rattle.dirac_common.specs.declared.picture.Picture.{Picture}
 use Rattle.dirac_refs.specs.declared.waiting.Waiting.{Waiting}
-use Rattle.dirac_refs.specs.Delivery.{Leaving, delivered, flush, flushed, flushed_by, key_at, least, least_among, least_place, others, picture_of, pushed_all}
+use Rattle.dirac_refs.specs.Delivery.{Leaving, delivered, in_delivery_order, flushed, flushed_by, key_at, least, least_among, least_place, others, picture_of, pushed_all}
 use Rattle.dirac_refs.proofs.Least.{is_least}
 use Rattle.dirac_edit_laws.proofs.Later.{left_from}
 
@@ -105,7 +105,7 @@ pushed_moved by f (x ∷ xs) ws =
     }
 
 -- the law
-pub flush_moved : (by : ℤ) (f : Picture → Picture) (ws : List Waiting) → flush (map (waiting_with by f) ws) ≡ map f (flush ws)
+pub flush_moved : (by : ℤ) (f : Picture → Picture) (ws : List Waiting) → in_delivery_order (map (waiting_with by f) ws) ≡ map f (in_delivery_order ws)
 flush_moved by f ws =
     let all = pushed_all [] ws in
     let l = pushed_moved by f ws [] in

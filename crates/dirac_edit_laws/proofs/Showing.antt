@@ -15,9 +15,9 @@ use Rattle.dirac_content.specs.declared.opened.Opened.{Opened}
 use Rattle.dirac_content.specs.Content.{rebuilt}
 use Rattle.dirac_content.specs.Sequences.{IsBetween}
 use Rattle.dirac_content.specs.Shown.{Outcome, outcome}
-use Rattle.dirac_content.specs.StreamState.{StreamState, ended, header_step, made, opening, picture_step, shows, staying, unit_step}
+use Rattle.dirac_content.specs.StreamState.{StreamState, ended, header_step, shown_or_refused, opening, picture_step, shows, staying, unit_step}
 use Rattle.dirac_encode_laws.proofs.Showing.{outcome_more}
-use Rattle.dirac_edit_laws.specs.Rebuilt.{AreRead, IsRead, all_shown, rebuilt_from, shown_of}
+use Rattle.dirac_edit_laws.specs.Rebuilt.{AreRead, IsRead, all_shown, rebuilt_from, sequence_shown}
 use Rattle.dirac_edit_laws.specs.Texts.{PictureText, SequenceText}
 use Rattle.dirac_edit_laws.specs.Units.{end_for, pictures_units, sequences_units, text_for}
 use Rattle.dirac_edit_laws.proofs.Cutting.{FitsPicture, FitsSequence}
@@ -43,7 +43,7 @@ abbrev with_more : SequenceText → List PictureText → SequenceText
 with_more t pictures = record { header = t.header; pictures = t.pictures ++ pictures }
 
 end_shown : (s : Sequence) (t : SequenceText) (previous : ℕ) (unit_place : UnitPlace) (state : StreamState) (rest : List UnitText) (pictures : List Picture) → IsIn s t state → FollowsAs rest pictures
-    → ShowsBehind (outcome state unit_place (end_for previous ∷ rest) None) (left_of s t).gone (shown_of t ++ pictures)
+    → ShowsBehind (outcome state unit_place (end_for previous ∷ rest) None) (left_of s t).gone (sequence_shown t ++ pictures)
 end_shown s t previous unit_place state rest pictures i more =
     let u = end_for previous in
     let left = left_of s t in
@@ -63,14 +63,14 @@ reads : (s : Sequence) (t : SequenceText) (state : StreamState) (code : ℕ) (pa
     → unit_step state code payload ≡ Ok (shows state coded (rebuilt s state.list coded))
 reads s t state code payload coded i code_is is =
     let o : Opened = record { header = t.header; sequence = s } in
-    step_picture state code payload code_is ∙ ap (λ x. picture_step state x code payload) i.opened ∙ ap (made state o) is
+    step_picture state code payload code_is ∙ ap (λ x. picture_step state x code payload) i.opened ∙ ap (shown_or_refused state o) is
 
 pictures_shown : (pictures : List PictureText) (s : Sequence) (t : SequenceText) (previous : ℕ) (unit_place : UnitPlace) (state : StreamState) (rest : List UnitText) (others : List Picture)
     → IsIn s t state → AreRead s state.list pictures → AllByRecursion FitsPicture pictures → FollowsAs rest others
-    → ShowsBehind (outcome state unit_place (pictures_units previous pictures rest) None) (left_of s t).gone (shown_of (with_more t pictures) ++ others)
+    → ShowsBehind (outcome state unit_place (pictures_units previous pictures rest) None) (left_of s t).gone (sequence_shown (with_more t pictures) ++ others)
 unfolding AreRead pictures_units
 pictures_shown [] s t previous unit_place state rest others i all fits more =
-    subst (λ (ps : List PictureText). ShowsBehind (outcome state unit_place (end_for previous ∷ rest) None) (left_of s t).gone (shown_of (record { header = t.header; pictures = ps }) ++ others)) (sym (append-nil t.pictures))
+    subst (λ (ps : List PictureText). ShowsBehind (outcome state unit_place (end_for previous ∷ rest) None) (left_of s t).gone (sequence_shown (record { header = t.header; pictures = ps }) ++ others)) (sym (append-nil t.pictures))
     (end_shown s t previous unit_place state rest others i more)
 pictures_shown (p ∷ pictures) s t previous unit_place state rest others i all fits more =
     let coded = all.0 in
@@ -89,7 +89,7 @@ pictures_shown (p ∷ pictures) s t previous unit_place state rest others i all 
           ∙ sym (append_assoc (left_of s t).gone m.gone shown)
           ∙ ap (λ g. g ++ shown) (sym step.gone)
           ∙ later.shown
-          ∙ ap (λ ps. shown_of (record { header = t.header; pictures = ps }) ++ others) (append_assoc t.pictures (p ∷ []) pictures);
+          ∙ ap (λ ps. sequence_shown (record { header = t.header; pictures = ps }) ++ others) (append_assoc t.pictures (p ∷ []) pictures);
       none = ap (λ (o : Outcome). o.end) one ∙ later.none;
     }
 

@@ -4,7 +4,7 @@ use Rattle.std.proofs.lemmas.Bool.{cases_Bool, eqb-true, or_cases, or_from}
 use Rattle.dirac_units.specs.Cut.{UnitText}
 use Rattle.dirac_units.specs.Info.{fields_are_read, is_picture}
 use Rattle.dirac_plan_laws.specs.Headers.{IsPictureCode}
-use Rattle.dirac_edit_laws.specs.Texts.{SequenceText, closed_off, opened_by, picture_text, points_with, sequences_from, with_picture}
+use Rattle.dirac_edit_laws.specs.Texts.{SequenceText, closed_off, opened_by, picture_text_at, points_up_to, sequences_from, with_picture_text}
 
 of_code : (code n : ℕ) → (code == n) ≡ true → IsPictureCode n → IsPictureCode code
 of_code code n is known = subst IsPictureCode (sym (eqb-true code n is)) known
@@ -74,33 +74,33 @@ pub behind_header : (index points : ℕ) (now : Option SequenceText) (u : UnitTe
 unfolding sequences_from
 behind_header index points now u units is =
     let code = u.info.code in
-    let up_to = points_with points u in
+    let up_to = points_up_to points u in
     ap (λ n. next_sequences (n == 0x00) (code == 0x10) (is_picture code) (sequences_from (suc index) points (opened_by now u.payload) units) (closed_off now ++ sequences_from (suc index) points None units)
-    (sequences_from (suc index) up_to (with_picture now (picture_text index up_to u)) units) (sequences_from (suc index) points now units)) is
+    (sequences_from (suc index) up_to (with_picture_text now (picture_text_at index up_to u)) units) (sequences_from (suc index) points now units)) is
 
 pub behind_end : (index points : ℕ) (now : Option SequenceText) (u : UnitText) (units : List UnitText) → u.info.code ≡ 0x10
     → sequences_from index points now (u ∷ units) ≡ closed_off now ++ sequences_from (suc index) points None units
 unfolding sequences_from
 behind_end index points now u units is =
     let code = u.info.code in
-    let up_to = points_with points u in
+    let up_to = points_up_to points u in
     ap (λ n. next_sequences (n == 0x00) (n == 0x10) (is_picture code) (sequences_from (suc index) points (opened_by now u.payload) units) (closed_off now ++ sequences_from (suc index) points None units)
-    (sequences_from (suc index) up_to (with_picture now (picture_text index up_to u)) units) (sequences_from (suc index) points now units)) is
+    (sequences_from (suc index) up_to (with_picture_text now (picture_text_at index up_to u)) units) (sequences_from (suc index) points now units)) is
 
 pub behind_picture : (index points : ℕ) (now : Option SequenceText) (u : UnitText) (units : List UnitText) → (u.info.code == 0x00) ≡ false → (u.info.code == 0x10) ≡ false → is_picture u.info.code ≡ true
-    → sequences_from index points now (u ∷ units) ≡ sequences_from (suc index) (points_with points u) (with_picture now (picture_text index (points_with points u) u)) units
+    → sequences_from index points now (u ∷ units) ≡ sequences_from (suc index) (points_up_to points u) (with_picture_text now (picture_text_at index (points_up_to points u) u)) units
 unfolding sequences_from
 behind_picture index points now u units not_header not_end is =
     let code = u.info.code in
-    let up_to = points_with points u in
+    let up_to = points_up_to points u in
     chosen_sequences (code == 0x00) (code == 0x10) (is_picture code) false false true (sequences_from (suc index) points (opened_by now u.payload) units) (closed_off now ++ sequences_from (suc index) points None units)
-    (sequences_from (suc index) up_to (with_picture now (picture_text index up_to u)) units) (sequences_from (suc index) points now units) not_header not_end is
+    (sequences_from (suc index) up_to (with_picture_text now (picture_text_at index up_to u)) units) (sequences_from (suc index) points now units) not_header not_end is
 
 pub behind_other : (index points : ℕ) (now : Option SequenceText) (u : UnitText) (units : List UnitText) → (u.info.code == 0x00) ≡ false → (u.info.code == 0x10) ≡ false → is_picture u.info.code ≡ false
     → sequences_from index points now (u ∷ units) ≡ sequences_from (suc index) points now units
 unfolding sequences_from
 behind_other index points now u units not_header not_end is =
     let code = u.info.code in
-    let up_to = points_with points u in
+    let up_to = points_up_to points u in
     chosen_sequences (code == 0x00) (code == 0x10) (is_picture code) false false false (sequences_from (suc index) points (opened_by now u.payload) units) (closed_off now ++ sequences_from (suc index) points None units)
-    (sequences_from (suc index) up_to (with_picture now (picture_text index up_to u)) units) (sequences_from (suc index) points now units) not_header not_end is
+    (sequences_from (suc index) up_to (with_picture_text now (picture_text_at index up_to u)) units) (sequences_from (suc index) points now units) not_header not_end is

@@ -9,7 +9,7 @@ use Rattle.dirac_common.specs.declared.picture.Picture.{Picture}
 use Rattle.dirac_sequence_header.specs.declared.sequence.Sequence.{Sequence}
 use Rattle.dirac_sequence_header.specs.Grammar.{sequence_read}
 use Rattle.dirac_units.specs.declared.unit_place.UnitPlace.{UnitPlace}
-use Rattle.dirac_units.specs.Cut.{UnitText, after, start}
+use Rattle.dirac_units.specs.Cut.{UnitText, after, first_unit_place}
 use Rattle.dirac_units.specs.Info.{fields_are_read}
 use Rattle.dirac_refs.specs.declared.waiting.Waiting.{Waiting}
 use Rattle.dirac_refs.specs.Delivery.{Leaving, delivered, flushed, pushed_all}
@@ -21,11 +21,11 @@ use Rattle.dirac_content.specs.declared.opened.Opened.{Opened}
 use Rattle.dirac_content.specs.Content.{rebuilt}
 use Rattle.dirac_content.specs.Sequences.{IsBetween}
 use Rattle.dirac_content.specs.Shown.{Outcome, follows, outcome}
-use Rattle.dirac_content.specs.StreamState.{StreamState, StreamStep, begun, content, ended, first_or, header_step, is_same, made, opening, passed, picture_step, shows, staying, unit_step}
+use Rattle.dirac_content.specs.StreamState.{StreamState, StreamStep, stream_begun, content, ended, first_or, header_step, is_same, shown_or_refused, opening, passed, picture_step, shows, staying, unit_step}
 use Rattle.dirac_content.proofs.Flushing.{pushed_append}
 use Rattle.dirac_edit_laws.specs.Laws.{UnitsShowTheirSequences}
-use Rattle.dirac_edit_laws.specs.Rebuilt.{AreRead, IsRead, RebuiltText, all_shown, list_behind, picture_in, rebuilt_behind, rebuilt_from, rebuilt_of, rebuilt_text, shown_of, waiting_from, with_keys}
-use Rattle.dirac_edit_laws.specs.Texts.{PictureText, SequenceText, closed_off, opened_by, picture_text, points_with, sequences_from, with_picture}
+use Rattle.dirac_edit_laws.specs.Rebuilt.{AreRead, IsRead, RebuiltText, all_shown, list_behind, rebuilt_picture, rebuilt_behind, rebuilt_from, rebuilt_of, rebuilt_text, sequence_shown, waiting_from, with_keys}
+use Rattle.dirac_edit_laws.specs.Texts.{PictureText, SequenceText, closed_off, opened_by, picture_text_at, points_up_to, sequences_from, with_picture_text}
 use Rattle.dirac_edit_laws.proofs.Closed.{one_rebuilt}
 use Rattle.dirac_edit_laws.proofs.UnitKinds.{behind_end, behind_header, behind_other, behind_picture, kind_of, of_end, of_header, of_other, of_picture}
 use Rattle.dirac_content.proofs.Flushing.{end_moves}
@@ -88,7 +88,7 @@ first_more (p ∷ pictures) q = refl
 
 -- the pictures of a sequence so far, with their keys
 abbrev pub keys_of : Sequence → SequenceText → List Waiting
-keys_of s t = with_keys (map picture_in (rebuilt_from s [] t.pictures))
+keys_of s t = with_keys (map rebuilt_picture (rebuilt_from s [] t.pictures))
 
 -- what left so far, and what waits
 abbrev pub left_of : Sequence → SequenceText → Leaving
@@ -100,16 +100,16 @@ pub record IsIn (s : Sequence) (t : SequenceText) (state : StreamState) : Type 0
   pub header : sequence_read t.header ≡ Ok s
   pub pictures : AreRead s [] t.pictures
   pub list : state.list ≡ lists_behind [] (rebuilt_from s [] t.pictures)
-  pub first : state.first ≡ first_in (map picture_in (rebuilt_from s [] t.pictures))
+  pub first : state.first ≡ first_in (map rebuilt_picture (rebuilt_from s [] t.pictures))
   pub waits : state.waiting ≡ (left_of s t).waiting
 
 pub is_read : (s : Sequence) (t : SequenceText) (state : StreamState) → IsIn s t state → IsRead t
 is_read s t state i = record { sequence = s; header = i.header; pictures = i.pictures }
 
-pub shown_is : (s : Sequence) (t : SequenceText) → sequence_read t.header ≡ Ok s → shown_of t ≡ (left_of s t).gone ++ flushed (left_of s t).waiting
+pub shown_is : (s : Sequence) (t : SequenceText) → sequence_read t.header ≡ Ok s → sequence_shown t ≡ (left_of s t).gone ++ flushed (left_of s t).waiting
 unfolding rebuilt_of
 shown_is s t is =
-    ap (λ r. let all = pushed_all [] (with_keys (map picture_in (rebuilt_behind t.pictures r))) in all.gone ++ flushed all.waiting) is
+    ap (λ r. let all = pushed_all [] (with_keys (map rebuilt_picture (rebuilt_behind t.pictures r))) in all.gone ++ flushed all.waiting) is
 
 -- a sequence with one picture more
 abbrev pub longer : SequenceText → PictureText → SequenceText
@@ -126,9 +126,9 @@ moves_by : (s : Sequence) (t : SequenceText) (p : PictureText) (state : StreamSt
 moves_by s t p state coded list i same more =
     let q = rebuilt s list coded in
     let r = rebuilt_text s list p coded in
-    let before = map picture_in (rebuilt_from s [] t.pictures) in
-    let now = map picture_in (rebuilt_from s [] (longer t p).pictures) in
-    let all : now ≡ before ++ q ∷ [] = ap (map picture_in) more.rebuilt ∙ map-append picture_in (rebuilt_from s [] t.pictures) (r ∷ []) in
+    let before = map rebuilt_picture (rebuilt_from s [] t.pictures) in
+    let now = map rebuilt_picture (rebuilt_from s [] (longer t p).pictures) in
+    let all : now ≡ before ++ q ∷ [] = ap (map rebuilt_picture) more.rebuilt ∙ map-append rebuilt_picture (rebuilt_from s [] t.pictures) (r ∷ []) in
     let w = waiting_from (first_or (first_in before) q.number) q in
     let keys : keys_of s (longer t p) ≡ keys_of s t ++ w ∷ [] = ap with_keys all ∙ keys_more before q in
     let left = left_of s t in
@@ -166,11 +166,11 @@ IsAt (Some t) state = (s : Sequence) × IsIn s t state
 -- what left of the open sequence so far
 unfoldable pub gone_of : Option SequenceText → List Picture
 gone_of None = []
-gone_of (Some t) = (pushed_all [] (with_keys (map picture_in (rebuilt_of t)))).gone
+gone_of (Some t) = (pushed_all [] (with_keys (map rebuilt_picture (rebuilt_of t)))).gone
 
 gone_is : (s : Sequence) (t : SequenceText) → sequence_read t.header ≡ Ok s → gone_of (Some t) ≡ (left_of s t).gone
 unfolding gone_of rebuilt_of
-gone_is s t is = ap (λ r. (pushed_all [] (with_keys (map picture_in (rebuilt_behind t.pictures r)))).gone) is
+gone_is s t is = ap (λ r. (pushed_all [] (with_keys (map rebuilt_picture (rebuilt_behind t.pictures r)))).gone) is
 
 -- the units behind this one
 abbrev pub Rest : Type 0
@@ -261,7 +261,7 @@ end_goes state unit_place rest (Some t) i none =
       shown =
           ap₂ (λ (g : List Picture) (ws : List Waiting). g ++ (flushed ws ++ shown)) (gone_is i.0 t i.1.header) i.1.waits
           ∙ sym (append_assoc left.gone (flushed left.waiting) shown)
-          ∙ ap (λ l. l ++ shown) (sym (append-nil (shown_of t) ∙ shown_is i.0 t i.1.header));
+          ∙ ap (λ l. l ++ shown) (sym (append-nil (sequence_shown t) ∙ shown_is i.0 t i.1.header));
     }
 
 -- ---- a picture
@@ -271,7 +271,7 @@ picture_some : (state : StreamState) (unit_place : UnitPlace) (rest : Rest) (s :
 unfolding IsAt
 picture_some state unit_place rest s t p i =
     let o : Opened = record { header = t.header; sequence = s } in
-    elim (picture_read p.code s state.list p.payload) as (λ r. picture_read p.code s state.list p.payload ≡ r → GoesBy state unit_place rest (Some t) (Some (longer t p)) [] (made state o r)) [
+    elim (picture_read p.code s state.list p.payload) as (λ r. picture_read p.code s state.list p.payload ≡ r → GoesBy state unit_place rest (Some t) (Some (longer t p)) [] (shown_or_refused state o r)) [
       | Err refusal ↦ λ is none. absurd cc
       | Ok coded ↦ λ is none.
           let m = shows state coded (rebuilt s state.list coded) in
@@ -289,7 +289,7 @@ picture_some state unit_place rest s t p i =
     ] refl
 
 picture_goes : (state : StreamState) (unit_place : UnitPlace) (rest : Rest) (p : PictureText) (now : Option SequenceText) → IsAt now state
-    → GoesBy state unit_place rest now (with_picture now p) [] (picture_step state state.opened p.code p.payload)
+    → GoesBy state unit_place rest now (with_picture_text now p) [] (picture_step state state.opened p.code p.payload)
 unfolding IsAt
 picture_goes state unit_place rest p None i =
     subst (λ (o : Option Opened). GoesBy state unit_place rest None None [] (picture_step state o p.code p.payload)) (sym i.opened) (λ none. absurd cc)
@@ -357,10 +357,10 @@ pass_end state unit_place u units now is i =
     (end_goes state unit_place (rest_behind unit_place u units) now i)
 
 pub pass_picture : (state : StreamState) (unit_place : UnitPlace) (u : UnitText) (units : List UnitText) (now : Option SequenceText) (index points : ℕ) → IsPictureCode u.info.code
-    → Passing state unit_place u units now (with_picture now (picture_text index points u)) []
+    → Passing state unit_place u units now (with_picture_text now (picture_text_at index points u)) []
 pass_picture state unit_place u units now index points is i =
-    let p = picture_text index points u in
-    by_step state unit_place u units now (with_picture now p) [] (picture_step state state.opened u.info.code u.payload) (step_picture state u.info.code u.payload is)
+    let p = picture_text_at index points u in
+    by_step state unit_place u units now (with_picture_text now p) [] (picture_step state state.opened u.info.code u.payload) (step_picture state u.info.code u.payload is)
     (picture_goes state unit_place (rest_behind unit_place u units) p now i)
 
 pub pass_open : (state : StreamState) (unit_place : UnitPlace) (u : UnitText) (units : List UnitText) (now : Option SequenceText) → IsPictureCode u.info.code
@@ -369,7 +369,7 @@ unfolding outcome
 pass_open state unit_place u units now is i =
     let rest = rest_behind unit_place u units in
     subst (λ (r : Result StreamStep Refusal). (follows state unit_place rest r).end ≡ None → IsOpen now) (sym (step_picture state u.info.code u.payload is))
-    (picture_open state unit_place rest (picture_text 0 0 u) now i)
+    (picture_open state unit_place rest (picture_text_at 0 0 u) now i)
 
 pub pass_other : (state : StreamState) (unit_place : UnitPlace) (u : UnitText) (units : List UnitText) (now : Option SequenceText) → (u.info.code == 0x10) ≡ false → fields_are_read u.info.code ≡ false
     → Passing state unit_place u units now now []
@@ -393,7 +393,7 @@ last_walk : (state : StreamState) (now : Option SequenceText) → IsAt now state
 unfolding IsAt gone_of
 last_walk state None i = ap flushed (sym i.waiting)
 last_walk state (Some t) i =
-    append-nil (shown_of t) ∙ shown_is i.0 t i.1.header
+    append-nil (sequence_shown t) ∙ shown_is i.0 t i.1.header
     ∙ ap₂ (λ (g : List Picture) (ws : List Waiting). g ++ flushed ws) (sym (gone_is i.0 t i.1.header)) (sym i.1.waits)
 
 -- a unit that leaves the sequences as they are
@@ -407,7 +407,7 @@ walk_end : (state : StreamState) (now : Option SequenceText) (texts texts' : Lis
 walk_end state now texts texts' rest o g i same w =
     subst (λ (x : List SequenceText). Walks now x o.shown) (sym same) (record {
       each = each_append IsRead (closed_off now) texts' (closed_read now state i) w.each;
-      shows = flat_map-append shown_of (closed_off now) texts' ∙ ap (λ l. all_shown (closed_off now) ++ l) w.shows ∙ sym g.shown;
+      shows = flat_map-append sequence_shown (closed_off now) texts' ∙ ap (λ l. all_shown (closed_off now) ++ l) w.shows ∙ sym g.shown;
     })
 
 walk : (units : List UnitText) (state : StreamState) (unit_place : UnitPlace) (index points : ℕ) (now : Option SequenceText) → IsAt now state → (outcome state unit_place units None).end ≡ None
@@ -428,8 +428,8 @@ walk (u ∷ units) state unit_place index points now i none =
           let g = pass_end state unit_place u units now is i none in
           walk_end state now texts (sequences_from (suc index) points None units) rest o g i (behind_end index points now u units is) (walk units g.later place (suc index) points None g.at g.none)
       | of_picture a b c is ↦
-          let up_to = points_with points u in
-          let next = with_picture now (picture_text index up_to u) in
+          let up_to = points_up_to points u in
+          let next = with_picture_text now (picture_text_at index up_to u) in
           let g = pass_picture state unit_place u units now index up_to is i none in
           walk_on now next texts (sequences_from (suc index) up_to next units) rest o g (behind_picture index points now u units a b c) (walk units g.later place (suc index) up_to next g.at g.none)
       | of_other a b c d ↦
@@ -437,7 +437,7 @@ walk (u ∷ units) state unit_place index points now i none =
           walk_on now now texts (sequences_from (suc index) points now units) rest o g (behind_other index points now u units a b c) (walk units g.later place (suc index) points now g.at g.none)
     ]
 
-pub at_start : IsAt None begun
+pub at_start : IsAt None stream_begun
 unfolding IsAt
 at_start = record { opened = refl; first = refl; list = refl; waiting = refl }
 
@@ -445,5 +445,5 @@ at_start = record { opened = refl; first = refl; list = refl; waiting = refl }
 pub units_shown : UnitsShowTheirSequences
 unfolding gone_of
 units_shown units none =
-    let w = walk units begun start 0 0 None at_start none in
+    let w = walk units stream_begun first_unit_place 0 0 None at_start none in
     (w.each, sym w.shows)

@@ -7,15 +7,15 @@ use Rattle.std.proofs.lemmas.List.Elements.{filter-append}
 use Rattle.dirac_common.specs.declared.picture.Picture.{Picture}
 use Rattle.dirac_units.specs.declared.unit_place.UnitPlace.{UnitPlace}
 use Rattle.dirac_common.specs.Codes.{is_intra}
-use Rattle.dirac_units.specs.Cut.{UnitText, after, start}
+use Rattle.dirac_units.specs.Cut.{UnitText, after, first_unit_place}
 use Rattle.dirac_units.specs.Info.{is_picture}
 use Rattle.dirac_units.specs.Writing.{IsReadAsWritten}
 use Rattle.dirac_content.specs.Shown.{outcome}
-use Rattle.dirac_content.specs.StreamState.{StreamState, begun}
+use Rattle.dirac_content.specs.StreamState.{StreamState, stream_begun}
 use Rattle.dirac_edit_laws.specs.Cut.{end_point, is_between, part_of, part_shown, restricted, wrong_end, wrong_point}
 use Rattle.dirac_edit_laws.specs.Laws.{CutsShowTheirParts, ShowsJust}
 use Rattle.dirac_edit_laws.specs.Rebuilt.{IsRead, all_shown}
-use Rattle.dirac_edit_laws.specs.Texts.{PictureText, SequenceText, closed_off, opened_by, picture_text, points_of, points_with, sequences, sequences_from, with_picture, with_pictures}
+use Rattle.dirac_edit_laws.specs.Texts.{PictureText, SequenceText, closed_off, opened_by, picture_text_at, points_of, points_up_to, sequences, sequences_from, with_picture_text, with_pictures}
 use Rattle.dirac_edit_laws.specs.Units.{sequences_bytes, sequences_units}
 use Rattle.dirac_edit_laws.proofs.Cutting.{FitsOpen, FitsPicture, FitsSequence, sequences_cut, texts_fit, units_fit}
 use Rattle.dirac_edit_laws.proofs.UnitKinds.{behind_end, behind_header, behind_other, behind_picture, kind_of, of_end, of_header, of_other, of_picture}
@@ -65,14 +65,14 @@ open_part (u ∷ units) a b index points t some =
       | of_header e ↦ subst (HasPart a b) (sym (behind_header index points now u units e)) (open_part units a b (suc index) points t some)
       | of_end e ↦ subst (HasPart a b) (sym (behind_end index points now u units e)) (has_first a b (t ∷ []) (sequences_from (suc index) points None units) (has_one a b t some))
       | of_picture c d f e ↦
-          let up_to = points_with points u in
-          let p = picture_text index up_to u in
+          let up_to = points_up_to points u in
+          let p = picture_text_at index up_to u in
           subst (HasPart a b) (sym (behind_picture index points now u units c d f)) (open_part units a b (suc index) up_to (record { header = t.header; pictures = t.pictures ++ p ∷ [] }) (chosen_more a b t p some))
       | of_other c d f e ↦ subst (HasPart a b) (sym (behind_other index points now u units c d f)) (open_part units a b (suc index) points t some)
     ]
 
 -- a picture at the first point of the part
-at_first : (a b : ℕ) (now : Option SequenceText) (p : PictureText) (units : List UnitText) (index points : ℕ) → IsOpen now → is_between a b p ≡ true → HasPart a b (sequences_from index points (with_picture now p) units)
+at_first : (a b : ℕ) (now : Option SequenceText) (p : PictureText) (units : List UnitText) (index points : ℕ) → IsOpen now → is_between a b p ≡ true → HasPart a b (sequences_from index points (with_picture_text now p) units)
 unfolding IsOpen
 at_first a b None p units index points is within = absurd is
 at_first a b (Some t) p units index points is within =
@@ -89,7 +89,7 @@ points_on : (u : UnitText) (units : List UnitText) (intra : Bool) → is_intra u
 unfolding points_of
 points_on u units intra is = ap (λ (b : Bool). if b then suc (points_of units) else points_of units) is
 
-points_up : (points : ℕ) (u : UnitText) (intra : Bool) → is_intra u.info.code ≡ intra → points_with points u ≡ (if intra then suc points else points)
+points_up : (points : ℕ) (u : UnitText) (intra : Bool) → is_intra u.info.code ≡ intra → points_up_to points u ≡ (if intra then suc points else points)
 points_up points u intra is = ap (λ (b : Bool). if b then suc points else points) is
 
 no_points : points_of [] ≡ 0
@@ -120,9 +120,9 @@ some_part (u ∷ units) a b state unit_place index points now i none before ther
           subst (HasPart a b) (sym (behind_end index points now u units e))
           (has_later a b (closed_off now) texts (some_part units a b g.later place (suc index) points None g.at g.none before (omega (arith, there, same)) less))
       | of_picture c d f e ↦
-          let up_to = points_with points u in
-          let p = picture_text index up_to u in
-          let next = with_picture now p in
+          let up_to = points_up_to points u in
+          let p = picture_text_at index up_to u in
+          let next = with_picture_text now p in
           let g = pass_picture state unit_place u units now index up_to e i none in
           subst (HasPart a b) (sym (behind_picture index points now u units c d f)) (elim (cases_Bool (is_intra code)) [
             | inr other ↦
@@ -187,8 +187,8 @@ stream_shown written [] pictures some read fit same = absurd (omega arith)
 stream_shown written (t ∷ ts) pictures some read fit same =
     let all = t ∷ ts in
     let units = sequences_units 0 all in
-    let shows : Shows (outcome begun start units None) (all_shown all) = sequences_shown all 0 start begun at_start read fit in
-    (outcome begun start units None, record { units = units; end = None; cut = sequences_cut written t ts 0 start (omega arith) fit; same = refl }, shows.shown ∙ same, shows.none)
+    let shows : Shows (outcome stream_begun first_unit_place units None) (all_shown all) = sequences_shown all 0 first_unit_place stream_begun at_start read fit in
+    (outcome stream_begun first_unit_place units None, record { units = units; end = None; cut = sequences_cut written t ts 0 first_unit_place (omega arith) fit; same = refl }, shows.shown ∙ same, shows.none)
 
 -- the law
 pub cuts_shown : IsReadAsWritten → CutsShowTheirParts
@@ -198,10 +198,10 @@ cuts_shown written bytes units from to f points closed =
     let there = are_there from to (points_of units) points in
     let ts = sequences units in
     let read = (units_shown units f.none).0 in
-    let fit = texts_fit units 0 0 None (units_fit units start bytes None f.below f.cut) tt in
+    let fit = texts_fit units 0 0 None (units_fit units first_unit_place bytes None f.below f.cut) tt in
     let kept = all_kept ts from to' read (texts_rise units 0 0 None tt) closed in
     let parts = map (restricted from to') ts in
     let same = same_with_pictures parts kept.read in
-    let has = some_part units from to' begun start 0 0 None at_start f.none (omega arith) (omega (arith, there.inside)) there.ordered in
+    let has = some_part units from to' stream_begun first_unit_place 0 0 None at_start f.none (omega arith) (omega (arith, there.inside)) there.ordered in
     stream_shown written (part_of from to' units) (part_shown units from to') has.some same.read
     (all_filtered FitsSequence (λ (s : SequenceText). nat_lt 0 (length s.pictures)) parts (restricted_fit ts from to' fit)) (same.same ∙ kept.same)

@@ -7,7 +7,7 @@ use Rattle.dirac_units.specs.Cut.{UnitText}
 use Rattle.dirac_picture.specs.Grammar.{are_listed}
 use Rattle.dirac_edit_laws.specs.Texts.{PictureText, SequenceText, sequences, with_pictures}
 use Rattle.dirac_edit_laws.specs.Units.{sequences_bytes}
-use Rattle.dirac_edit_laws.specs.Rebuilt.{RebuiltText, in_order, list_behind, picture_in, rebuilt_of}
+use Rattle.dirac_edit_laws.specs.Rebuilt.{RebuiltText, in_order, list_behind, rebuilt_picture, rebuilt_of}
 
 -- the point up to which is cut: this one, by default the number of points
 abbrev pub end_point : Option ℕ → ℕ → ℕ
@@ -45,7 +45,7 @@ part_rebuilt a b s = filter (λ (r : RebuiltText). is_between a b r.text) (rebui
 
 -- what the part of a sequence shows: keys count from its own first picture
 abbrev pub part_shown_of : ℕ → ℕ → SequenceText → List Picture
-part_shown_of a b s = in_order (map picture_in (part_rebuilt a b s))
+part_shown_of a b s = in_order (map rebuilt_picture (part_rebuilt a b s))
 
 -- what the part shows, sequence by sequence
 abbrev pub part_shown : List UnitText → ℕ → ℕ → List Picture
@@ -59,14 +59,14 @@ open_from list (r ∷ rebuilt) =
     if are_listed list r.coded.header then open_from (list_behind list r) rebuilt else Some r.text.index
 
 -- the first answer, else the second
-abbrev pub first_of : Option ℕ → Option ℕ → Option ℕ
-first_of None second = second
-first_of (Some unit) second = Some unit
+abbrev pub first_answer : Option ℕ → Option ℕ → Option ℕ
+first_answer None second = second
+first_answer (Some unit) second = Some unit
 
 -- the first such unit of the part; in each sequence nothing is listed before the part's first picture
 unfoldable pub open_among : ℕ → ℕ → List SequenceText → Option ℕ
 open_among a b [] = None
-open_among a b (s ∷ sequences) = first_of (open_from [] (part_rebuilt a b s)) (open_among a b sequences)
+open_among a b (s ∷ sequences) = first_answer (open_from [] (part_rebuilt a b s)) (open_among a b sequences)
 
 -- the unit at which the cut from point a to point b is open, if there is one
 abbrev pub open_cut : List UnitText → ℕ → ℕ → Option ℕ

@@ -11,8 +11,8 @@ use Rattle.dirac_edit_laws.specs.Texts.{PictureText, SequenceText, sequences, wi
 use Rattle.dirac_edit_laws.specs.Units.{sequences_bytes}
 
 -- the number that a picture's payload begins with
-abbrev pub number_of : List ℕ → ℕ
-number_of payload = from_be_bytes w32 (take 4 payload)
+abbrev pub number_in_payload : List ℕ → ℕ
+number_in_payload payload = from_be_bytes w32 (take 4 payload)
 
 -- a picture with its key
 pub record Keyed : Type 0 where
@@ -27,12 +27,12 @@ pub record Group : Type 0 where
 
 -- a picture with its key, counted from this number
 abbrev pub keyed_from : ℕ → PictureText → Keyed
-keyed_from first p = record { key = key_of first (number_of p.payload); picture = p }
+keyed_from first p = record { key = key_of first (number_in_payload p.payload); picture = p }
 
 -- the number of the first picture
 abbrev pub first_number : List PictureText → ℕ
 first_number [] = 0
-first_number (p ∷ pictures) = number_of p.payload
+first_number (p ∷ pictures) = number_in_payload p.payload
 
 -- a sequence of its own
 abbrev pub group_of : SequenceText → Group
@@ -93,12 +93,12 @@ renumbered first k =
     record k.picture { payload = to_be_bytes w32 (new_number first k.key) ++ drop 4 k.picture.payload }
 
 -- a sequence with its new numbers
-abbrev pub text_of : Group → SequenceText
-text_of g = record { header = g.header; pictures = map (renumbered g.first) g.pictures }
+abbrev pub renumbered_text : Group → SequenceText
+renumbered_text g = record { header = g.header; pictures = map (renumbered g.first) g.pictures }
 
 -- the sequences that these become
-abbrev pub joined : List SequenceText → List SequenceText
-joined sequences = map text_of (groups_of (map group_of (with_pictures sequences)))
+abbrev pub joined_sequences : List SequenceText → List SequenceText
+joined_sequences sequences = map renumbered_text (groups_of (map group_of (with_pictures sequences)))
 
 -- where no sequence has a picture: the first header and an end unit, or an end unit alone
 abbrev pub bare : List SequenceText → List ℕ
@@ -112,4 +112,4 @@ bytes_or_bare all (s ∷ sequences) = sequences_bytes 0 (s ∷ sequences)
 
 -- the bytes of a stream whose sequences are joined
 abbrev pub joined_bytes : List UnitText → List ℕ
-joined_bytes units = bytes_or_bare (sequences units) (joined (sequences units))
+joined_bytes units = bytes_or_bare (sequences units) (joined_sequences (sequences units))

@@ -3,10 +3,10 @@ use Rattle.std.specs.Prelude.{◌≡◌, ℕ, ◌≤◌, ◌<◌, ◌^◌, List,
 use Rattle.std.specs.List.{AllByRecursion}
 use Rattle.dirac_common.specs.declared.picture.Picture.{Picture}
 use Rattle.dirac_sequence_header.specs.declared.sequence.Sequence.{Sequence}
-use Rattle.dirac_units.specs.Cut.{IsCut, UnitText, start}
+use Rattle.dirac_units.specs.Cut.{IsCut, UnitText, first_unit_place}
 use Rattle.dirac_content.specs.Raw.{raws}
 use Rattle.dirac_content.specs.Shown.{IsShown, Outcome, outcome}
-use Rattle.dirac_content.specs.StreamState.{begun}
+use Rattle.dirac_content.specs.StreamState.{stream_begun}
 use Rattle.dirac_edit_laws.specs.Cut.{cut_bytes, end_point, open_cut, open_from, part_shown, wrong_point}
 use Rattle.dirac_edit_laws.specs.Joined.{joined_bytes}
 use Rattle.dirac_edit_laws.specs.Rebuilt.{AreRead, IsRead, all_shown, rebuilt_from}
@@ -16,8 +16,8 @@ use Rattle.dirac_edit_laws.specs.Texts.{PictureText, points_of, sequences}
 -- bytes that are cut into these units, and decoded without a fault
 pub record IsFaultless (bytes : List ℕ) (units : List UnitText) : Type 0 where
   pub below : AllByRecursion (λ b. b < 2 ^ 8) bytes
-  pub cut : IsCut start bytes units None
-  pub none : (outcome begun start units None).end ≡ None
+  pub cut : IsCut first_unit_place bytes units None
+  pub none : (outcome stream_begun first_unit_place units None).end ≡ None
 
 -- these bytes show just these pictures, and have no fault
 abbrev pub ShowsJust : List ℕ → List Picture → Type 0
@@ -37,9 +37,9 @@ PartsBeginAnywhere = (whole : List Picture) → IsRestricted whole []
 -- units that are decoded without a fault show their sequences, each of which is read
 abbrev pub UnitsShowTheirSequences : Type 0
 UnitsShowTheirSequences =
-    (units : List UnitText) → (outcome begun start units None).end ≡ None
+    (units : List UnitText) → (outcome stream_begun first_unit_place units None).end ≡ None
     → AllByRecursion IsRead (sequences units)
-    × ((outcome begun start units None).shown ≡ all_shown (sequences units))
+    × ((outcome stream_begun first_unit_place units None).shown ≡ all_shown (sequences units))
 
 -- the cut from one point to another, where no picture of the part is open, shows the part's pictures as the whole
 -- stream rebuilds them
@@ -55,4 +55,4 @@ abbrev pub JoinedStreamsShowTheSame : Type 0
 JoinedStreamsShowTheSame =
     (bytes : List ℕ) (units : List UnitText) → IsFaultless bytes units
     → (o : Outcome) × IsShown (joined_bytes units) o
-    × (raws o.shown ≡ raws (outcome begun start units None).shown) × (o.end ≡ None)
+    × (raws o.shown ≡ raws (outcome stream_begun first_unit_place units None).shown) × (o.end ≡ None)

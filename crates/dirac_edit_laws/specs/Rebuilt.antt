@@ -6,7 +6,7 @@ use Rattle.dirac_common.specs.declared.picture.Picture.{Picture}
 use Rattle.dirac_sequence_header.specs.declared.sequence.Sequence.{Sequence}
 use Rattle.dirac_sequence_header.specs.Grammar.{sequence_read}
 use Rattle.dirac_refs.specs.declared.waiting.Waiting.{Waiting}
-use Rattle.dirac_refs.specs.Delivery.{flush, key_of}
+use Rattle.dirac_refs.specs.Delivery.{in_delivery_order, key_of}
 use Rattle.dirac_refs.specs.References.{as_reference, committed}
 use Rattle.dirac_picture.specs.declared.coded.CodedPicture.{CodedPicture}
 use Rattle.dirac_picture.specs.Grammar.{picture_read}
@@ -51,8 +51,8 @@ unfoldable pub rebuilt_of : SequenceText → List RebuiltText
 rebuilt_of s = rebuilt_behind s.pictures (sequence_read s.header)
 
 -- the picture alone
-abbrev pub picture_in : RebuiltText → Picture
-picture_in r = r.picture
+abbrev pub rebuilt_picture : RebuiltText → Picture
+rebuilt_picture r = r.picture
 
 -- a picture with its key, counted from this number
 abbrev pub waiting_from : ℕ → Picture → Waiting
@@ -65,15 +65,15 @@ with_keys (p ∷ pictures) = map (waiting_from p.number) (p ∷ pictures)
 
 -- pictures of a sequence, in the order of delivery
 abbrev pub in_order : List Picture → List Picture
-in_order pictures = flush (with_keys pictures)
+in_order pictures = in_delivery_order (with_keys pictures)
 
 -- what a sequence shows
-abbrev pub shown_of : SequenceText → List Picture
-shown_of s = in_order (map picture_in (rebuilt_of s))
+abbrev pub sequence_shown : SequenceText → List Picture
+sequence_shown s = in_order (map rebuilt_picture (rebuilt_of s))
 
 -- what sequences show, one after another
 abbrev pub all_shown : List SequenceText → List Picture
-all_shown sequences = flat_map shown_of sequences
+all_shown sequences = flat_map sequence_shown sequences
 
 -- each of these pictures is read, with these pictures listed before the first
 unfoldable pub AreRead : Sequence → List Picture → List PictureText → Type 0

@@ -54,8 +54,8 @@ TheSecondIsRenumbered =
     ++ end_unit (13 + length (0 ∷ 0 ∷ 0 ∷ 1 ∷ q))))) ++ []
 
 -- the payloads of two grey pictures of 8 by 8 samples
-abbrev pub header : List ℕ
-header = 0x6F ∷ 0xC1 ∷ 0x83 ∷ 0x08 ∷ 0x30 ∷ 0x79 ∷ []
+abbrev pub header_payload : List ℕ
+header_payload = 0x6F ∷ 0xC1 ∷ 0x83 ∷ 0x08 ∷ 0x30 ∷ 0x79 ∷ []
 
 abbrev pub intra : ℕ → List ℕ
 intra number =
@@ -68,23 +68,25 @@ inter number =
     ∷ 0x80 ∷ 0x80 ∷ []
 
 -- an intra picture and one that refers to it
-abbrev pub grey : List UnitText
-grey = text 0x00 header ∷ text 0x0C (intra 0) ∷ text 0x0D (inter 1) ∷ end_for 0 ∷ []
+abbrev pub grey_stream : List UnitText
+grey_stream = text 0x00 header_payload ∷ text 0x0C (intra 0) ∷ text 0x0D (inter 1) ∷ end_for 0 ∷ []
 
 -- the front of each unit, its code, length and the length before it
-abbrev pub front : ℕ → ℕ → ℕ → List ℕ
-front code next previous = 0x42 ∷ 0x42 ∷ 0x43 ∷ 0x44 ∷ code ∷ 0 ∷ 0 ∷ 0 ∷ next ∷ 0 ∷ 0 ∷ 0 ∷ previous ∷ []
+abbrev pub front_as_bytes : ℕ → ℕ → ℕ → List ℕ
+front_as_bytes code next previous = 0x42 ∷ 0x42 ∷ 0x43 ∷ 0x44 ∷ code ∷ 0 ∷ 0 ∷ 0 ∷ next ∷ 0 ∷ 0 ∷ 0 ∷ previous ∷ []
 
 -- the first 82 bytes of that stream
 abbrev pub grey_pictures : List ℕ
 grey_pictures =
-    front 0x00 19 0 ++ header ++ front 0x0C 31 19 ++ intra 0 ++ front 0x0D 32 31 ++ inter 1
+    front_as_bytes 0x00 19 0 ++ header_payload ++ front_as_bytes 0x0C 31 19 ++ intra 0 ++ front_as_bytes 0x0D 32 31
+    ++ inter 1
 
 -- cut from its only point on it is itself; joined with itself, its second half has numbers 2 and 3
 abbrev pub GreyIsCut : Type 0
-GreyIsCut = cut_bytes grey 0 1 ≡ grey_pictures ++ front 0x10 0 32
+GreyIsCut = cut_bytes grey_stream 0 1 ≡ grey_pictures ++ front_as_bytes 0x10 0 32
 
 abbrev pub GreyIsJoined : Type 0
 GreyIsJoined =
-    joined_bytes (grey ++ grey)
-    ≡ grey_pictures ++ front 0x0C 31 32 ++ intra 2 ++ front 0x0D 32 31 ++ inter 3 ++ front 0x10 0 32
+    joined_bytes (grey_stream ++ grey_stream)
+    ≡ grey_pictures ++ front_as_bytes 0x0C 31 32 ++ intra 2 ++ front_as_bytes 0x0D 32 31 ++ inter 3
+    ++ front_as_bytes 0x10 0 32

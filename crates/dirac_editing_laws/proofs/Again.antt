@@ -6,17 +6,17 @@ use Rattle.std.specs.List.{AllByRecursion}
 use Rattle.std.proofs.lemmas.Bool.{lt-ltb}
 use Rattle.std.proofs.lemmas.Int.{int_max_is, int_min_is, ints, of_z-to_z, to_z_pos}
 use Rattle.std.proofs.lemmas.Nat.{from_be_bytes-to_be_bytes_4}
-use Rattle.dirac_units.specs.Cut.{IsCut, after, start}
+use Rattle.dirac_units.specs.Cut.{IsCut, after, first_unit_place}
 use Rattle.dirac_units.specs.Writing.{IsReadAsWritten}
 use Rattle.dirac_refs.specs.Delivery.{key_of}
 use Rattle.dirac_plan_laws.proofs.Each.{each_append}
 use Rattle.dirac_content.specs.Shown.{IsShown, Outcome, outcome}
-use Rattle.dirac_content.specs.StreamState.{begun, ended, is_same}
+use Rattle.dirac_content.specs.StreamState.{stream_begun, ended, is_same}
 use Rattle.dirac_content.proofs.Flushing.{end_moves}
 use Rattle.dirac_encode_laws.specs.Stream.{end_info, end_unit}
 use Rattle.dirac_encode_laws.proofs.Cutting.{nothing_left}
 use Rattle.dirac_encode_laws.proofs.Showing.{outcome_more}
-use Rattle.dirac_edit_laws.specs.Joined.{Group, Keyed, bare, bytes_or_bare, first_number, group_of, groups_behind, groups_of, high, joined, joined_bytes, keyed_from, low, may_merge, merged, moved_key, new_number, number_of, renumbered, shift, text_of}
+use Rattle.dirac_edit_laws.specs.Joined.{Group, Keyed, bare, bytes_or_bare, first_number, group_of, groups_behind, groups_of, high, joined_sequences, joined_bytes, keyed_from, low, may_merge, merged, moved_key, new_number, number_in_payload, renumbered, shift, renumbered_text}
 use Rattle.dirac_edit_laws.specs.Rebuilt.{AreRead, IsRead}
 use Rattle.dirac_edit_laws.specs.Texts.{PictureText, SequenceText, sequences, sequences_from, with_pictures}
 use Rattle.dirac_edit_laws.specs.Units.{end_for, pictures_bytes, sequences_bytes, sequences_units}
@@ -51,7 +51,7 @@ record IsCounted (g : Group) : Type 0 where
 
 own_keys : (ps : List PictureText) (first : ℕ) → AllByRecursion IsKey (map (keyed_from first) ps)
 own_keys [] first = tt
-own_keys (p ∷ ps) first = (record { number = (number_of p.payload + (2 ^ 32 - first)) % 2 ^ 32; small = omega arith; is = refl }, own_keys ps first)
+own_keys (p ∷ ps) first = (record { number = (number_in_payload p.payload + (2 ^ 32 - first)) % 2 ^ 32; small = omega arith; is = refl }, own_keys ps first)
 
 zero_key : (n : ℕ) → n < 2 ^ 32 → key_of n n ≡ pos 0
 zero_key n small =
@@ -60,7 +60,7 @@ zero_key n small =
 
 own_begins : (ps : List PictureText) → 0 < length ps → first_number ps < 2 ^ 32 → BeginsAtZero (map (keyed_from (first_number ps)) ps)
 own_begins [] some small = absurd (omega arith)
-own_begins (p ∷ ps) some small = zero_key (number_of p.payload) small
+own_begins (p ∷ ps) some small = zero_key (number_in_payload p.payload) small
 
 counted_own : (t : SequenceText) → IsFull t → IsCounted (group_of t)
 counted_own t f =
@@ -176,7 +176,7 @@ numbered first k = record { key = k.key; picture = renumbered first k }
 abbrev again_of : Group → Group
 again_of g = record { header = g.header; first = g.first; pictures = map (numbered g.first) g.pictures }
 
-number_again : (first : ℕ) (k : Keyed) → number_of (renumbered first k).payload ≡ new_number first k.key
+number_again : (first : ℕ) (k : Keyed) → number_in_payload (renumbered first k).payload ≡ new_number first k.key
 number_again first k = from_be_bytes-to_be_bytes_4 (new_number first k.key) (omega arith)
 
 zero_bits : cast_unsigned w32 (pos 0) ≡ 0
@@ -188,7 +188,7 @@ first_again (k ∷ ks) first small is =
     let same : (first + 0) % 2 ^ 32 ≡ first = omega arith in
     number_again first k ∙ ap (new_number first) is ∙ ap (λ n. (first + n) % 2 ^ 32) zero_bits ∙ same
 
-key_again : (first : ℕ) (k : Keyed) → first < 2 ^ 32 → IsKey k → key_of first (number_of (renumbered first k).payload) ≡ k.key
+key_again : (first : ℕ) (k : Keyed) → first < 2 ^ 32 → IsKey k → key_of first (number_in_payload (renumbered first k).payload) ≡ k.key
 key_again first k small is =
     ap (key_of first) (number_again first k) ∙ ap (λ z. key_of first (new_number first z)) is.is
     ∙ numbers_have_keys first is.number small is.small ∙ sym is.is
@@ -198,13 +198,13 @@ keys_again [] first small all = refl
 keys_again (k ∷ ks) first small all =
     ap₂ (λ (z : ℤ) (l : List Keyed). (let x : Keyed = record { key = z; picture = renumbered first k } in x) ∷ l) (key_again first k small all.0) (keys_again ks first small all.1)
 
-group_again : (g : Group) → IsCounted g → group_of (text_of g) ≡ again_of g
+group_again : (g : Group) → IsCounted g → group_of (renumbered_text g) ≡ again_of g
 group_again g is =
     let ps = map (renumbered g.first) g.pictures in
     let make : ℕ → List Keyed → Group = λ n ks. record { header = g.header; first = n; pictures = ks } in
     ap (λ n. make n (map (keyed_from n) ps)) (first_again g.pictures g.first is.small is.begins) ∙ ap (make g.first) (keys_again g.pictures g.first is.small is.keys)
 
-groups_again : (gs : List Group) → AllByRecursion IsCounted gs → map group_of (map text_of gs) ≡ map again_of gs
+groups_again : (gs : List Group) → AllByRecursion IsCounted gs → map group_of (map renumbered_text gs) ≡ map again_of gs
 groups_again [] all = refl
 groups_again (g ∷ gs) all = ap₂ (λ (x : Group) (l : List Group). x ∷ l) (group_again g all.0) (groups_again gs all.1)
 
@@ -212,7 +212,7 @@ texts_twice : (ks : List Keyed) (first : ℕ) → map (renumbered first) (map (n
 texts_twice [] first = refl
 texts_twice (k ∷ ks) first = ap (λ (l : List PictureText). renumbered first k ∷ l) (texts_twice ks first)
 
-all_twice : (gs : List Group) → map text_of (map again_of gs) ≡ map text_of gs
+all_twice : (gs : List Group) → map renumbered_text (map again_of gs) ≡ map renumbered_text gs
 all_twice [] = refl
 all_twice (g ∷ gs) = ap₂ (λ (ps : List PictureText) (l : List SequenceText). (let t : SequenceText = record { header = g.header; pictures = ps } in t) ∷ l) (texts_twice g.pictures g.first) (all_twice gs)
 
@@ -246,17 +246,17 @@ some_pictures : (ks : List Keyed) (first : ℕ) → BeginsAtZero ks → nat_lt 0
 some_pictures [] first is = absurd is
 some_pictures (k ∷ ks) first is = lt-ltb 0 (length (map (renumbered first) (k ∷ ks))) (omega arith)
 
-all_with : (gs : List Group) → AllByRecursion IsCounted gs → with_pictures (map text_of gs) ≡ map text_of gs
+all_with : (gs : List Group) → AllByRecursion IsCounted gs → with_pictures (map renumbered_text gs) ≡ map renumbered_text gs
 all_with [] all = refl
 all_with (g ∷ gs) all =
-    let rest = with_pictures (map text_of gs) in
-    ap (λ (b : Bool). if b then text_of g ∷ rest else rest) (some_pictures g.pictures g.first all.0.begins) ∙ ap (λ (l : List SequenceText). text_of g ∷ l) (all_with gs all.1)
+    let rest = with_pictures (map renumbered_text gs) in
+    ap (λ (b : Bool). if b then renumbered_text g ∷ rest else rest) (some_pictures g.pictures g.first all.0.begins) ∙ ap (λ (l : List SequenceText). renumbered_text g ∷ l) (all_with gs all.1)
 
-joined_again : (gs : List Group) → AllByRecursion IsCounted gs → AreApart gs → joined (map text_of gs) ≡ map text_of gs
+joined_again : (gs : List Group) → AllByRecursion IsCounted gs → AreApart gs → joined_sequences (map renumbered_text gs) ≡ map renumbered_text gs
 joined_again gs all apart =
-    ap (λ (l : List SequenceText). map text_of (groups_of (map group_of l))) (all_with gs all)
-    ∙ ap (λ (l : List Group). map text_of (groups_of l)) (groups_again gs all)
-    ∙ ap (map text_of) (of_apart gs apart) ∙ all_twice gs
+    ap (λ (l : List SequenceText). map renumbered_text (groups_of (map group_of l))) (all_with gs all)
+    ∙ ap (λ (l : List Group). map renumbered_text (groups_of l)) (groups_again gs all)
+    ∙ ap (map renumbered_text) (of_apart gs apart) ∙ all_twice gs
 
 -- ---- the stream
 
@@ -269,9 +269,9 @@ unfolding IsAt
 stays_by written t ts read fits same =
     let all = t ∷ ts in
     let units = sequences_units 0 all in
-    let shows = sequences_shown all 0 start begun at_start read fits in (
-      outcome begun start units None,
-      record { units = units; end = None; cut = sequences_cut written t ts 0 start (omega arith) fits; same = refl },
+    let shows = sequences_shown all 0 first_unit_place stream_begun at_start read fits in (
+      outcome stream_begun first_unit_place units None,
+      record { units = units; end = None; cut = sequences_cut written t ts 0 first_unit_place (omega arith) fits; same = refl },
       shows.none,
       joined_alike (sequences units) all (texts_read all 0 0 0 fits) ∙ same,
     )
@@ -280,9 +280,9 @@ stays_bare : IsReadAsWritten → (ts : List SequenceText) → AllByRecursion IsR
 unfolding sequences_from outcome AreRead pictures_bytes sequences_bytes
 stays_bare written [] read fits =
     let units = end_for 0 ∷ [] in
-    let cut : IsCut start (end_unit 0) units None = subst (λ (l : List ℕ). IsCut start l units None) (append-nil (end_unit 0)) (end_cut written 0 start [] [] (omega arith) (nothing_left (after start (end_info 0)) refl)) in
-    let step = outcome_more begun start (end_for 0) [] (ended begun) (end_moves begun 0x10 [] refl) in (
-      outcome begun start units None,
+    let cut : IsCut first_unit_place (end_unit 0) units None = subst (λ (l : List ℕ). IsCut first_unit_place l units None) (append-nil (end_unit 0)) (end_cut written 0 first_unit_place [] [] (omega arith) (nothing_left (after first_unit_place (end_info 0)) refl)) in
+    let step = outcome_more stream_begun first_unit_place (end_for 0) [] (ended stream_begun) (end_moves stream_begun 0x10 [] refl) in (
+      outcome stream_begun first_unit_place units None,
       record { units = units; end = None; cut = cut; same = refl },
       ap (λ (o : Outcome). o.end) step,
       ap joined_by (behind_end 0 0 None (end_for 0) [] refl),
@@ -294,12 +294,12 @@ stays_bare written (t ∷ ts) read fits =
     let whole : sequences_bytes 0 (alone ∷ []) ≡ bare (t ∷ ts) = append-nil (bare (t ∷ ts)) in
     subst Stays whole (stays_by written alone [] (one, tt) (fit, tt) (sym whole))
 
-stays_joined : IsReadAsWritten → (all : List SequenceText) (gs : List Group) → 0 < length gs → AllByRecursion IsRead (map text_of gs) → AllByRecursion FitsSequence (map text_of gs) → AllByRecursion IsCounted gs → AreApart gs
-    → Stays (bytes_or_bare all (map text_of gs))
+stays_joined : IsReadAsWritten → (all : List SequenceText) (gs : List Group) → 0 < length gs → AllByRecursion IsRead (map renumbered_text gs) → AllByRecursion FitsSequence (map renumbered_text gs) → AllByRecursion IsCounted gs → AreApart gs
+    → Stays (bytes_or_bare all (map renumbered_text gs))
 stays_joined written all [] some read fits counted apart = absurd (omega arith)
 stays_joined written all (g ∷ gs) some read fits counted apart =
-    let ts = map text_of (g ∷ gs) in
-    stays_by written (text_of g) (map text_of gs) read fits (ap (bytes_or_bare ts) (joined_again (g ∷ gs) counted apart))
+    let ts = map renumbered_text (g ∷ gs) in
+    stays_by written (renumbered_text g) (map renumbered_text gs) read fits (ap (bytes_or_bare ts) (joined_again (g ∷ gs) counted apart))
 
 some_behind : (gs : List Group) (now : Group) → 0 < length (groups_behind now gs)
 unfolding groups_behind
@@ -310,7 +310,7 @@ some_behind (g ∷ gs) now =
       | false ↦ omega arith
     ]
 
-stays : IsReadAsWritten → (all full : List SequenceText) → AllByRecursion IsRead all → AllByRecursion FitsSequence all → AllByRecursion IsFull full → Stays (bytes_or_bare all (map text_of (groups_of (map group_of full))))
+stays : IsReadAsWritten → (all full : List SequenceText) → AllByRecursion IsRead all → AllByRecursion FitsSequence all → AllByRecursion IsFull full → Stays (bytes_or_bare all (map renumbered_text (groups_of (map group_of full))))
 stays written all [] read fits each = stays_bare written all read fits
 stays written all (t ∷ full) read fits each =
     let now = group_of t in
@@ -324,5 +324,5 @@ unfolding FitsOpen
 joined_stay written bytes units f =
     let ts = sequences units in
     let all = units_shown units f.none in
-    let fits = texts_fit units 0 0 None (units_fit units start bytes None f.below f.cut) tt in
+    let fits = texts_fit units 0 0 None (units_fit units first_unit_place bytes None f.below f.cut) tt in
     stays written ts (with_pictures ts) all.0 fits (each_full ts all.0 fits)

@@ -6,7 +6,7 @@ use Rattle.dirac_common.specs.declared.picture.Picture.{Picture}
 use Rattle.dirac_common.specs.Codes.{is_intra, is_reference, references_of}
 use Rattle.dirac_bits.specs.Cursor.{start}
 use Rattle.dirac_bits.specs.Syntax.{refuse}
-use Rattle.dirac_units.specs.Cut.{UnitText, start as stream_start}
+use Rattle.dirac_units.specs.Cut.{UnitText, first_unit_place}
 use Rattle.dirac_units.specs.Info.{is_picture}
 use Rattle.dirac_units.specs.Writing.{IsReadAsWritten}
 use Rattle.dirac_sequence_header.specs.declared.sequence.Sequence.{Sequence}
@@ -20,10 +20,10 @@ use Rattle.dirac_common.specs.declared.faults.Cause.TheVariants.{MissingReferenc
 use Rattle.dirac_plan_laws.specs.Headers.{IsPictureCode}
 use Rattle.dirac_plan_laws.proofs.Each.{each_append}
 use Rattle.std.proofs.lemmas.Bool.{and_parts}
-use Rattle.dirac_edit_laws.specs.Cut.{cut_bytes, first_of, is_between, open_among, open_from, part_rebuilt, part_shown_of, wrong_end, wrong_point}
-use Rattle.dirac_edit_laws.specs.Rebuilt.{AreRead, IsRead, RebuiltText, all_shown, in_order, list_behind, picture_in, rebuilt_from, rebuilt_of, rebuilt_text}
+use Rattle.dirac_edit_laws.specs.Cut.{cut_bytes, first_answer, is_between, open_among, open_from, part_rebuilt, part_shown_of, wrong_end, wrong_point}
+use Rattle.dirac_edit_laws.specs.Rebuilt.{AreRead, IsRead, RebuiltText, all_shown, in_order, list_behind, rebuilt_picture, rebuilt_from, rebuilt_of, rebuilt_text}
 use Rattle.dirac_edit_laws.specs.Restricted.{IsRestricted}
-use Rattle.dirac_edit_laws.specs.Texts.{PictureText, SequenceText, closed_off, opened_by, picture_text, points_of, points_with, sequences, sequences_from, with_picture}
+use Rattle.dirac_edit_laws.specs.Texts.{PictureText, SequenceText, closed_off, opened_by, picture_text_at, points_of, points_up_to, sequences, sequences_from, with_picture_text}
 use Rattle.dirac_edit_laws.specs.Laws.{ShowsJust}
 use Rattle.dirac_edit_laws.proofs.Alike.{body_header, every_value, parts_of_whole}
 use Rattle.dirac_edit_laws.proofs.Closed.{one_rebuilt}
@@ -60,27 +60,27 @@ unfolding PlacedOpen
 opened_placed top None payload is = tt
 opened_placed top (Some t) payload is = is
 
-more_placed : (top : ℕ) (now : Option SequenceText) (p : PictureText) → PlacedOpen top now → IsPlaced top p → PlacedOpen top (with_picture now p)
+more_placed : (top : ℕ) (now : Option SequenceText) (p : PictureText) → PlacedOpen top now → IsPlaced top p → PlacedOpen top (with_picture_text now p)
 unfolding PlacedOpen
 more_placed top None p is one = tt
 more_placed top (Some t) p is one = each_append (IsPlaced top) t.pictures (p ∷ []) is (one, tt)
 
 -- one unit's points
-points_on : (points more : ℕ) (u : UnitText) → points + points_with more u ≡ points_with points u + more
+points_on : (points more : ℕ) (u : UnitText) → points + points_up_to more u ≡ points_up_to points u + more
 points_on points more u = on (is_intra u.info.code) points more
   where
     on : (b : Bool) (points more : ℕ) → points + (if b then suc more else more) ≡ (if b then suc points else points) + more
     on true points more = omega arith
     on false points more = omega arith
 
-points_grow : (points : ℕ) (u : UnitText) → points ≤ points_with points u
+points_grow : (points : ℕ) (u : UnitText) → points ≤ points_up_to points u
 points_grow points u = grow (is_intra u.info.code) points
   where
     grow : (b : Bool) (points : ℕ) → points ≤ (if b then suc points else points)
     grow true points = omega arith
     grow false points = omega arith
 
-is_placed : (index points top : ℕ) (u : UnitText) → points_with points u ≤ top → IsPlaced top (picture_text index (points_with points u) u)
+is_placed : (index points top : ℕ) (u : UnitText) → points_up_to points u ≤ top → IsPlaced top (picture_text_at index (points_up_to points u) u)
 is_placed index points top u few = record {
   up_to = few;
   behind = λ e. subst (λ (n : ℕ). 0 < n) (sym (ap (λ (b : Bool). if b then suc points else points) e)) (omega arith);
@@ -100,10 +100,10 @@ texts_placed (u ∷ units) index points top now few is =
           subst (AllByRecursion (ArePlaced top)) (sym (behind_end index points now u units e))
           (each_append (ArePlaced top) (closed_off now) (sequences_from (suc index) points None units) (closed_placed top now is) (texts_placed units (suc index) points top None less tt))
       | of_picture a b c e ↦
-          let up_to = points_with points u in
-          let p = picture_text index up_to u in
+          let up_to = points_up_to points u in
+          let p = picture_text_at index up_to u in
           let one = is_placed index points top u (omega (arith, few, on)) in
-          subst (AllByRecursion (ArePlaced top)) (sym (behind_picture index points now u units a b c)) (texts_placed units (suc index) up_to top (with_picture now p) (omega (arith, few, on)) (more_placed top now p is one))
+          subst (AllByRecursion (ArePlaced top)) (sym (behind_picture index points now u units a b c)) (texts_placed units (suc index) up_to top (with_picture_text now p) (omega (arith, few, on)) (more_placed top now p is one))
       | of_other a b c d ↦ subst (AllByRecursion (ArePlaced top)) (sym (behind_other index points now u units a b c)) (texts_placed units (suc index) points top now less is)
     ]
 
@@ -242,8 +242,8 @@ all_whole (t ∷ ts) top read rise placed fits =
     let one = one_whole top t read.0 rise.0 placed.0 fits.0 in
     let rest = all_whole ts top read.1 rise.1 placed.1 fits.1 in
     record {
-      closed = ap (λ (o : Option ℕ). first_of o (open_among 0 top ts)) one.closed ∙ rest.closed;
-      shown = ap₂ (λ (rs : List RebuiltText) (l : List Picture). in_order (map picture_in rs) ++ l) one.part rest.shown;
+      closed = ap (λ (o : Option ℕ). first_answer o (open_among 0 top ts)) one.closed ∙ rest.closed;
+      shown = ap₂ (λ (rs : List RebuiltText) (l : List Picture). in_order (map rebuilt_picture rs) ++ l) one.part rest.shown;
     }
 
 -- the law
@@ -252,7 +252,7 @@ unfolding FitsOpen RisesOpen PlacedOpen
 all_cut written bytes units f some =
     let top = points_of units in
     let all = units_shown units f.none in
-    let fits = texts_fit units 0 0 None (units_fit units stream_start bytes None f.below f.cut) tt in
+    let fits = texts_fit units 0 0 None (units_fit units first_unit_place bytes None f.below f.cut) tt in
     let whole = all_whole (sequences units) top all.0 (texts_rise units 0 0 None tt) (texts_placed units 0 0 top None (omega arith) tt) fits in
     let there : wrong_point 0 None top ≡ None = ap (λ (b : Bool). if b then Some 0 else wrong_end 0 None top) (lt-leb top 0 some) in
     let shows = cuts_shown written bytes units 0 None f there whole.closed in

@@ -9,7 +9,7 @@ use Rattle.dirac_common.specs.declared.faults.Refusal.{Refusal}
 use Rattle.dirac_common.specs.declared.picture.Picture.{Picture}
 use Rattle.dirac_units.specs.declared.info.ParseInfo.{ParseInfo}
 use Rattle.dirac_units.specs.declared.unit_place.UnitPlace.{UnitPlace}
-use Rattle.dirac_units.specs.Cut.{IsCut, UnitText, after, fault_at, front_of, start, unit_front}
+use Rattle.dirac_units.specs.Cut.{IsCut, UnitText, after, fault_at, front_of, first_unit_place, unit_front}
 use Rattle.dirac_units.specs.Info.{fields_are_read, info_read, span_of}
 use Rattle.dirac_units.proofs.Fronts.{chosen, front_is, front_more, front_whole}
 use Rattle.dirac_sequence_header.specs.declared.sequence.Sequence.{Sequence}
@@ -23,7 +23,7 @@ use Rattle.dirac_content.specs.declared.opened.Opened.{Opened}
 use Rattle.dirac_content.specs.Content.{rebuilt}
 use Rattle.dirac_content.specs.Sequences.{IsBetween}
 use Rattle.dirac_content.specs.Shown.{Outcome, follows, outcome}
-use Rattle.dirac_content.specs.StreamState.{StreamState, StreamStep, begun, content, ended, header_step, is_same, made, opening, passed, picture_step, shows, staying, unit_step}
+use Rattle.dirac_content.specs.StreamState.{StreamState, StreamStep, stream_begun, content, ended, header_step, is_same, shown_or_refused, opening, passed, picture_step, shows, staying, unit_step}
 use Rattle.dirac_content.proofs.Flushing.{end_moves}
 use Rattle.dirac_encode_laws.proofs.Cutting.{nothing_left}
 use Rattle.dirac_encode_laws.proofs.Showing.{outcome_more}
@@ -87,12 +87,12 @@ cut_from (u ∷ units) p q bytes same is = (
 )
 
 -- the cut of a stream, behind an end unit
-cut_behind : (units : List UnitText) (q : UnitPlace) (bytes : List ℕ) → IsCut start bytes units None → IsCut q bytes units None
-cut_behind [] q bytes is = absurd (let open_still = (at_end start bytes is).closed in cc)
+cut_behind : (units : List UnitText) (q : UnitPlace) (bytes : List ℕ) → IsCut first_unit_place bytes units None → IsCut q bytes units None
+cut_behind [] q bytes is = absurd (let open_still = (at_end first_unit_place bytes is).closed in cc)
 cut_behind (u ∷ units) q bytes is = (
-  front_elsewhere start q bytes u.info is.0,
+  front_elsewhere first_unit_place q bytes u.info is.0,
   is.1,
-  cut_from units (after start u.info) (after q u.info) (drop (span_of u.info) bytes) refl is.2,
+  cut_from units (after first_unit_place u.info) (after q u.info) (drop (span_of u.info) bytes) refl is.2,
 )
 
 range_front : (bytes more : List ℕ) (span : ℕ) → 13 ≤ length bytes → span ≤ length bytes → slice_range bytes 13 span ≡ slice_range (bytes ++ more) 13 span
@@ -100,7 +100,7 @@ range_front bytes more span some within =
     sym (ap (take (span - 13)) (drop-append-le 13 bytes more some)
     ∙ take-append-le (span - 13) (drop 13 bytes) more (omega (arith, length-drop 13 bytes, within)))
 
-pub cut_append : (units : List UnitText) (p : UnitPlace) (bytes more : List ℕ) (next : List UnitText) → IsCut p bytes units None → IsCut start more next None → IsCut p (bytes ++ more) (units ++ next) None
+pub cut_append : (units : List UnitText) (p : UnitPlace) (bytes more : List ℕ) (next : List UnitText) → IsCut p bytes units None → IsCut first_unit_place more next None → IsCut p (bytes ++ more) (units ++ next) None
 cut_append [] p bytes more next is later =
     subst (λ (l : List ℕ). IsCut p (l ++ more) next None) (sym (at_end p bytes is).none) (cut_behind next p more later)
 cut_append (u ∷ units) p bytes more next is later =
@@ -151,11 +151,11 @@ header_as state n (Some o) payload =
       | false ↦ err_as_before (record { at = 0; cause = SequenceChanged }) (Err (record { at = 0; cause = SequenceChanged }))
     ]
 
-made_as : (state : StreamState) (n : ℕ) (o : Opened) (r : Result CodedPicture Refusal) → AsBefore (made state o r) (made (with_most n state) o r)
+made_as : (state : StreamState) (n : ℕ) (o : Opened) (r : Result CodedPicture Refusal) → AsBefore (shown_or_refused state o r) (shown_or_refused (with_most n state) o r)
 made_as state n o (Ok coded) =
     let p = rebuilt o.sequence state.list coded in
     ok_as_before (shows state coded p) (shows (with_most n state) coded p) (shows (with_most n state) coded p).state.most refl
-made_as state n o (Err refusal) = err_as_before _ (made (with_most n state) o (Err refusal))
+made_as state n o (Err refusal) = err_as_before _ (shown_or_refused (with_most n state) o (Err refusal))
 
 picture_as : (state : StreamState) (n : ℕ) (o : Option Opened) (code : ℕ) (payload : List ℕ) → AsBefore (picture_step state o code payload) (picture_step (with_most n state) o code payload)
 picture_as state n None code payload = err_as_before _ (picture_step (with_most n state) None code payload)
@@ -216,7 +216,7 @@ shown_elsewhere (u ∷ units) state n p q none =
     }
 
 -- between sequences it is as at the beginning
-between_is : (state : StreamState) → IsBetween state → with_most state.most begun ≡ state
+between_is : (state : StreamState) → IsBetween state → with_most state.most stream_begun ≡ state
 between_is state i =
     let make : Option Opened → Option ℕ → List Picture → List Waiting → StreamState = λ o f l w. record { opened = o; first = f; list = l; waiting = w; most = state.most } in
     sym (ap (λ o. make o state.first state.list state.waiting) i.opened ∙ ap (λ f. make None f state.list state.waiting) i.first
@@ -230,11 +230,11 @@ ends state u m is end =
     subst (λ (x : StreamStep). IsBetween x.state) same (closed_state state)
 
 pub shown_behind : (units : List UnitText) (state : StreamState) (p : UnitPlace) (bytes : List ℕ) (next : List UnitText) → IsCut p bytes units None → (p.closed ≡ true → IsBetween state) → (outcome state p units None).end ≡ None
-    → (outcome begun start next None).end ≡ None → Shows (outcome state p (units ++ next) None) ((outcome state p units None).shown ++ shown_by next)
+    → (outcome stream_begun first_unit_place next None).end ≡ None → Shows (outcome state p (units ++ next) None) ((outcome state p units None).shown ++ shown_by next)
 unfolding outcome
 shown_behind [] state p bytes next cut closed none later =
     let i = closed (at_end p bytes cut).closed in
-    let there : Shows (outcome state p next None) (shown_by next) = subst (λ (x : StreamState). Shows (outcome x p next None) (shown_by next)) (between_is state i) (shown_elsewhere next begun state.most start p later) in
+    let there : Shows (outcome state p next None) (shown_by next) = subst (λ (x : StreamState). Shows (outcome x p next None) (shown_by next)) (between_is state i) (shown_elsewhere next stream_begun state.most first_unit_place p later) in
     record {
       shown = there.shown ∙ ap (λ (ws : List Waiting). flushed ws ++ shown_by next) (sym i.waiting);
       none = there.none;
@@ -257,10 +257,10 @@ shown_behind (u ∷ units) state p bytes next cut closed none later =
 -- the law
 pub streams_behind : StreamsFollow
 streams_behind bytes bytes' units units' f f' =
-    let shows = shown_behind units begun start bytes units' f.cut (λ bad. absurd (let e : false ≡ true = bad in cc)) f.none f'.none in (
+    let shows = shown_behind units stream_begun first_unit_place bytes units' f.cut (λ bad. absurd (let e : false ≡ true = bad in cc)) f.none f'.none in (
       record {
         below = each_append (λ b. b < 2 ^ 8) bytes bytes' f.below f'.below;
-        cut = cut_append units start bytes bytes' units' f.cut f'.cut;
+        cut = cut_append units first_unit_place bytes bytes' units' f.cut f'.cut;
         none = shows.none;
       },
       shows.shown,

@@ -9,27 +9,27 @@ use Rattle.std.proofs.lemmas.List.{map-append}
 use Rattle.std.proofs.lemmas.List.Elements.{recursion_from_All}
 use Rattle.dirac_common.specs.declared.picture.Picture.{Picture}
 use Rattle.dirac_common.specs.Codes.{is_intra}
-use Rattle.dirac_units.specs.Cut.{UnitText, start}
+use Rattle.dirac_units.specs.Cut.{UnitText, first_unit_place}
 use Rattle.dirac_units.specs.Info.{is_picture}
 use Rattle.dirac_units.specs.Writing.{IsReadAsWritten}
 use Rattle.dirac_refs.specs.declared.waiting.Waiting.{Waiting}
-use Rattle.dirac_refs.specs.Delivery.{flush, key_of}
+use Rattle.dirac_refs.specs.Delivery.{in_delivery_order, key_of}
 use Rattle.dirac_refs.specs.References.{as_reference}
 use Rattle.dirac_refs.proofs.Listed.{few_committed}
 use Rattle.dirac_plan_laws.proofs.Each.{each_append}
 use Rattle.dirac_content.specs.Raw.{raws}
 use Rattle.dirac_content.specs.Shown.{outcome}
-use Rattle.dirac_content.specs.StreamState.{begun}
+use Rattle.dirac_content.specs.StreamState.{stream_begun}
 use Rattle.dirac_encode_laws.specs.Stream.{end_info, info_for, unit}
 use Rattle.dirac_units.specs.declared.info.ParseInfo.{ParseInfo}
 use Rattle.dirac_units.specs.Writing.{info_bytes}
 use Rattle.dirac_encode_laws.proofs.Sourcing.{all_filtered}
-use Rattle.dirac_edit_laws.specs.Cut.{cut_bytes, first_of, is_between, open_among, open_cut, open_from, part_of, part_rebuilt, part_shown, part_shown_of, restricted}
+use Rattle.dirac_edit_laws.specs.Cut.{cut_bytes, first_answer, is_between, open_among, open_cut, open_from, part_of, part_rebuilt, part_shown, part_shown_of, restricted}
 use Rattle.dirac_edit_laws.specs.Laws.{IsFaultless}
 use Rattle.dirac_edit_laws.specs.Later.{AreNotBefore}
-use Rattle.dirac_edit_laws.specs.Rebuilt.{IsRead, RebuiltText, all_shown, in_order, list_behind, picture_in, rebuilt_from, rebuilt_of, waiting_from}
+use Rattle.dirac_edit_laws.specs.Rebuilt.{IsRead, RebuiltText, all_shown, in_order, list_behind, rebuilt_picture, rebuilt_from, rebuilt_of, waiting_from}
 use Rattle.dirac_edit_laws.specs.Restricted.{IsRestricted}
-use Rattle.dirac_edit_laws.specs.Texts.{PictureText, SequenceText, closed_off, opened_by, picture_text, points_of, points_with, sequences, sequences_from, with_picture}
+use Rattle.dirac_edit_laws.specs.Texts.{PictureText, SequenceText, closed_off, opened_by, picture_text_at, points_of, points_up_to, sequences, sequences_from, with_picture_text}
 use Rattle.dirac_edit_laws.specs.Units.{pictures_bytes, sequences_bytes, sequences_units}
 use Rattle.dirac_edit_laws.proofs.Alike.{all_listed}
 use Rattle.dirac_edit_laws.proofs.Closed.{opens_later}
@@ -111,11 +111,11 @@ unfolding IsAt
 is_stream written [] some read fits = absurd (omega arith)
 is_stream written (t ∷ ts) some read fits =
     let all = t ∷ ts in
-    let shows = sequences_shown all 0 start begun at_start read fits in
+    let shows = sequences_shown all 0 first_unit_place stream_begun at_start read fits in
     record {
       faultless = record {
         below = sequences_below all 0 fits;
-        cut = sequences_cut written t ts 0 start (omega arith) fits;
+        cut = sequences_cut written t ts 0 first_unit_place (omega arith) fits;
         none = shows.none;
       };
       shown = shows.shown;
@@ -136,12 +136,12 @@ unfolding OrderedOpen Rises
 opened_ordered low points None payload is = is
 opened_ordered low points (Some t) payload is = is
 
-picture_ordered : (low points : ℕ) (now : Option SequenceText) (p : PictureText) → points ≤ p.points → OrderedOpen low points now → OrderedOpen low p.points (with_picture now p)
+picture_ordered : (low points : ℕ) (now : Option SequenceText) (p : PictureText) → points ≤ p.points → OrderedOpen low points now → OrderedOpen low p.points (with_picture_text now p)
 unfolding OrderedOpen
 picture_ordered low points None p more is = omega (arith, is)
 picture_ordered low points (Some t) p more is = rises_on t.pictures low points p more is
 
-points_grow : (points : ℕ) (u : UnitText) → points ≤ points_with points u
+points_grow : (points : ℕ) (u : UnitText) → points ≤ points_up_to points u
 points_grow points u = grow (is_intra u.info.code) points
   where
     grow : (b : Bool) (points : ℕ) → points ≤ (if b then suc points else points)
@@ -163,9 +163,9 @@ texts_ordered (u ∷ units) index points low now is = elim (kind_of u.info.code)
       subst (OrderedFrom low) (sym (behind_end index points now u units e))
       (closed_ordered now low points (sequences_from (suc index) points None units) is (λ n few. texts_ordered units (suc index) points n None few))
   | of_picture a b c e ↦
-      let up_to = points_with points u in
-      let p = picture_text index up_to u in
-      subst (OrderedFrom low) (sym (behind_picture index points now u units a b c)) (texts_ordered units (suc index) up_to low (with_picture now p) (picture_ordered low points now p (points_grow points u) is))
+      let up_to = points_up_to points u in
+      let p = picture_text_at index up_to u in
+      subst (OrderedFrom low) (sym (behind_picture index points now u units a b c)) (texts_ordered units (suc index) up_to low (with_picture_text now p) (picture_ordered low points now p (points_grow points u) is))
   | of_other a b c d ↦ subst (OrderedFrom low) (sym (behind_other index points now u units a b c)) (texts_ordered units (suc index) points low now is)
 ]
 
@@ -309,11 +309,11 @@ from_another (p ∷ ps) x y sx sy first all =
     ap₂ (λ (z : ℤ) (ws : List Waiting). (let w : Waiting = record { key = z; picture = p } in w) ∷ ws) (key_from x y p.number sx sy first all.0) (from_another ps x y sx sy first all.1)
 
 -- they leave as they do by themselves
-leave_alone : (ps : List Picture) (x : ℕ) → x < 2 ^ 32 → AreBelow ps → AreBehind x ps → flush (map (waiting_from x) ps) ≡ in_order ps
+leave_alone : (ps : List Picture) (x : ℕ) → x < 2 ^ 32 → AreBelow ps → AreBehind x ps → in_delivery_order (map (waiting_from x) ps) ≡ in_order ps
 leave_alone [] x small below all = refl
 leave_alone (p ∷ ps) x small below all =
     let ws = map (waiting_from p.number) (p ∷ ps) in
-    ap flush (from_another (p ∷ ps) x p.number small below.0 all.0 all) ∙ flush_moved (key_of x p.number) (λ (q : Picture). q) ws ∙ map_itself (flush ws)
+    ap in_delivery_order (from_another (p ∷ ps) x p.number small below.0 all.0 all) ∙ flush_moved (key_of x p.number) (λ (q : Picture). q) ws ∙ map_itself (in_delivery_order ws)
 
 -- the first picture's key is 0
 own_key : (n : ℕ) → n < 2 ^ 32 → key_of n n ≡ pos 0
@@ -335,12 +335,12 @@ in_turn (x ∷ xs) ys below below' turn =
     let order : AreNotBefore later former = turn x xs refl in
     let firsts = recursion_from_All (λ (w : Waiting). All (λ (v : Waiting). w.key ≤ℤ v.key) later) former order in
     let behind = behind_first ys n below.0 (recursion_from_All (λ (v : Waiting). key_of n n ≤ℤ v.key) later firsts.0) in
-    ap flush (map-append (waiting_from n) (x ∷ xs) ys) ∙ later_leave_later former later order
-    ∙ ap (λ (l : List Picture). flush former ++ l) (leave_alone ys n below.0 below' behind)
+    ap in_delivery_order (map-append (waiting_from n) (x ∷ xs) ys) ∙ later_leave_later former later order
+    ∙ ap (λ (l : List Picture). in_delivery_order former ++ l) (leave_alone ys n below.0 below' behind)
 
 -- ---- a sequence
 
-numbers_small : (rs : List RebuiltText) → AllByRecursion IsNumbered rs → AreBelow (map picture_in rs)
+numbers_small : (rs : List RebuiltText) → AllByRecursion IsNumbered rs → AreBelow (map rebuilt_picture rs)
 numbers_small [] all = tt
 numbers_small (r ∷ rs) all = (subst (λ n. n < 2 ^ 32) (sym all.0.number) all.0.small, numbers_small rs all.1)
 
@@ -366,9 +366,9 @@ shown_meets a b c low high t less less' known turn =
     let rs = rebuilt_of t in
     let xs = part_rebuilt a b t in
     let ys = part_rebuilt b c t in
-    ap (λ (l : List RebuiltText). in_order (map picture_in l)) (parts_meet rs a b c low high less less' known.rises)
-    ∙ ap in_order (map-append picture_in xs ys)
-    ∙ in_turn (map picture_in xs) (map picture_in ys) (numbers_small xs (all_filtered IsNumbered (is_among a b) rs known.numbered)) (numbers_small ys (all_filtered IsNumbered (is_among b c) rs known.numbered)) turn
+    ap (λ (l : List RebuiltText). in_order (map rebuilt_picture l)) (parts_meet rs a b c low high less less' known.rises)
+    ∙ ap in_order (map-append rebuilt_picture xs ys)
+    ∙ in_turn (map rebuilt_picture xs) (map rebuilt_picture ys) (numbers_small xs (all_filtered IsNumbered (is_among a b) rs known.numbered)) (numbers_small ys (all_filtered IsNumbered (is_among b c) rs known.numbered)) turn
 
 -- points rise
 ordered_up : (ps : List PictureText) (low high : ℕ) → Rises low high ps → low ≤ high
@@ -392,7 +392,7 @@ none_shown_up [] a b low many read fits order = refl
 none_shown_up (t ∷ ts) a b low many read fits order =
     let known = is_known low order.0 t read.0 fits.0 order.1 in
     let up = ordered_up t.pictures low order.0 order.1 in
-    ap₂ (λ (rs : List RebuiltText) (l : List Picture). in_order (map picture_in rs) ++ l) (none_up (rebuilt_of t) a b low order.0 many known.rises)
+    ap₂ (λ (rs : List RebuiltText) (l : List Picture). in_order (map rebuilt_picture rs) ++ l) (none_up (rebuilt_of t) a b low order.0 many known.rises)
     (none_shown_up ts a b order.0 (omega (arith, up)) read.1 fits.1 order.2)
 
 all_meet : (ts : List SequenceText) (a b c low : ℕ) → a < b → b < c → AllByRecursion IsRead ts → AllByRecursion FitsSequence ts → OrderedFrom low ts → AllByRecursion (FollowsInTurn a b c) ts
@@ -411,7 +411,7 @@ all_meet (t ∷ ts) a b c low less less' read fits order turn =
     elim (cases_lt b high) [
       | inl beyond ↦ swap_none x y xs ys (none_shown_up ts a b high beyond read.1 fits.1 order.2) ∙ ap₂ (λ (p q : List Picture). p ++ q) (sym one) rest
       | inr within ↦
-          let none : y ≡ [] = ap (λ (rs : List RebuiltText). in_order (map picture_in rs)) (none_down (rebuilt_of t) b c low high within known.rises) in
+          let none : y ≡ [] = ap (λ (rs : List RebuiltText). in_order (map rebuilt_picture rs)) (none_down (rebuilt_of t) b c low high within known.rises) in
           swap_first x y xs ys none ∙ ap₂ (λ (p q : List Picture). p ++ q) (sym one) rest
     ]
 
@@ -435,7 +435,7 @@ closed_append (x ∷ xs) ys list few first second =
     let rest = closed_append xs ys (list_behind list x) (few_committed list x.coded.header.retire (as_reference x.coded.code x.picture) few) o.later second in
     ap (λ (b : Bool). if b then open_from (list_behind list x) (xs ++ ys) else Some x.text.index) o.closed ∙ rest
 
-first_none : (first second : Option ℕ) → first_of first second ≡ None → (first ≡ None) × (second ≡ None)
+first_none : (first second : Option ℕ) → first_answer first second ≡ None → (first ≡ None) × (second ≡ None)
 first_none None second is = (refl, is)
 first_none (Some n) second is = absurd cc
 
@@ -448,7 +448,7 @@ all_closed (t ∷ ts) a b c low less less' read fits order first second =
     let two = first_none (open_from [] (part_rebuilt b c t)) (open_among b c ts) second in
     let here : open_from [] (part_rebuilt a c t) ≡ None =
     ap (open_from []) (parts_meet (rebuilt_of t) a b c low order.0 less less' known.rises) ∙ closed_append (part_rebuilt a b t) (part_rebuilt b c t) [] (omega arith) one.0 two.0 in
-    ap (λ (o : Option ℕ). first_of o (open_among a c ts)) here ∙ all_closed ts a b c order.0 less less' read.1 fits.1 order.2 one.1 two.1
+    ap (λ (o : Option ℕ). first_answer o (open_among a c ts)) here ∙ all_closed ts a b c order.0 less less' read.1 fits.1 order.2 one.1 two.1
 
 -- ---- the law
 
@@ -459,11 +459,11 @@ unfolding FitsOpen RisesOpen IsAt
 part_stream written bytes units a b f less within closed =
     let ts = sequences units in
     let read = (units_shown units f.none).0 in
-    let fit = texts_fit units 0 0 None (units_fit units start bytes None f.below f.cut) tt in
+    let fit = texts_fit units 0 0 None (units_fit units first_unit_place bytes None f.below f.cut) tt in
     let kept = all_kept ts a b read (texts_rise units 0 0 None tt) closed in
     let parts = map (restricted a b) ts in
     let same = same_with_pictures parts kept.read in
-    let has = some_part units a b begun start 0 0 None at_start f.none (omega arith) (omega arith) less in (
+    let has = some_part units a b stream_begun first_unit_place 0 0 None at_start f.none (omega arith) (omega arith) less in (
       is_stream written (part_of a b units) has.some same.read (all_filtered FitsSequence (λ (s : SequenceText). nat_lt 0 (length s.pictures)) parts (restricted_fit ts a b fit)),
       same.same ∙ kept.same,
     )
@@ -473,7 +473,7 @@ unfolding FitsOpen OrderedOpen
 cuts_joined written bytes units a b c f less less' within closed closed' turn =
     let ts = sequences units in
     let read = (units_shown units f.none).0 in
-    let fit = texts_fit units 0 0 None (units_fit units start bytes None f.below f.cut) tt in
+    let fit = texts_fit units 0 0 None (units_fit units first_unit_place bytes None f.below f.cut) tt in
     let order = texts_ordered units 0 0 0 None (omega arith) in
     let one = part_stream written bytes units a b f less (omega arith) closed in
     let two = part_stream written bytes units b c f less' within closed' in
@@ -488,7 +488,7 @@ cuts_joined written bytes units a b c f less less' within closed closed' turn =
     let joins = joins_shown written (first ++ second) (us ++ vs) both.0 in (
       all_closed ts a b c 0 less less' read fit order closed closed',
       (
-        outcome begun start (us ++ vs) None,
+        outcome stream_begun first_unit_place (us ++ vs) None,
         record { units = us ++ vs; end = None; cut = both.0.cut; same = refl },
         both.0.none,
         (joins.0, joins.1, joins.2 ∙ ap raws shown, joins.3),

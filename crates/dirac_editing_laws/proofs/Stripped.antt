@@ -7,8 +7,8 @@ use Rattle.std.proofs.lemmas.List.{length-map, map-append}
 use Rattle.dirac_units.specs.Cut.{UnitText}
 use Rattle.dirac_content.specs.StreamState.{is_same}
 use Rattle.dirac_encode_laws.specs.Stream.{unit}
-use Rattle.dirac_edit_laws.specs.Joined.{Group, Keyed, bare, bytes_or_bare, first_number, group_of, groups_behind, groups_of, high, joined, keyed_from, low, may_merge, merged, moved_key, renumbered, shift, text_of}
-use Rattle.dirac_edit_laws.specs.Texts.{PictureText, SequenceText, picture_text, points_with, sequences_from, with_pictures}
+use Rattle.dirac_edit_laws.specs.Joined.{Group, Keyed, bare, bytes_or_bare, first_number, group_of, groups_behind, groups_of, high, joined_sequences, keyed_from, low, may_merge, merged, moved_key, renumbered, shift, renumbered_text}
+use Rattle.dirac_edit_laws.specs.Texts.{PictureText, SequenceText, picture_text_at, points_up_to, sequences_from, with_pictures}
 use Rattle.dirac_edit_laws.specs.Units.{end_for, pictures_bytes, pictures_units, sequences_bytes, sequences_units, text_for}
 use Rattle.dirac_edit_laws.proofs.Cutting.{FitsPicture, FitsSequence}
 use Rattle.dirac_edit_laws.proofs.EncodedCut.{picture_unit}
@@ -29,7 +29,7 @@ stripped_group g = record { header = g.header; first = g.first; pictures = map s
 
 -- the bytes of sequences that are joined
 abbrev pub joined_by : List SequenceText → List ℕ
-joined_by ts = bytes_or_bare ts (joined ts)
+joined_by ts = bytes_or_bare ts (joined_sequences ts)
 
 with_stripped : (ts : List SequenceText) → with_pictures (map stripped_text ts) ≡ map stripped_text (with_pictures ts)
 with_stripped [] = refl
@@ -106,16 +106,16 @@ numbered_stripped : (ks : List Keyed) (first : ℕ) → map (renumbered first) (
 numbered_stripped [] first = refl
 numbered_stripped (k ∷ ks) first = ap (λ (l : List PictureText). stripped (renumbered first k) ∷ l) (numbered_stripped ks first)
 
-texts_stripped : (gs : List Group) → map text_of (map stripped_group gs) ≡ map stripped_text (map text_of gs)
+texts_stripped : (gs : List Group) → map renumbered_text (map stripped_group gs) ≡ map stripped_text (map renumbered_text gs)
 texts_stripped [] = refl
 texts_stripped (g ∷ gs) =
     ap₂ (λ (ps : List PictureText) (ts : List SequenceText). (let t : SequenceText = record { header = g.header; pictures = ps } in t) ∷ ts) (numbered_stripped g.pictures g.first) (texts_stripped gs)
 
-joined_stripped : (ts : List SequenceText) → joined (map stripped_text ts) ≡ map stripped_text (joined ts)
+joined_stripped : (ts : List SequenceText) → joined_sequences (map stripped_text ts) ≡ map stripped_text (joined_sequences ts)
 joined_stripped ts =
-    ap (λ (l : List SequenceText). map text_of (groups_of (map group_of l))) (with_stripped ts)
-    ∙ ap (λ (gs : List Group). map text_of (groups_of gs)) (groups_stripped (with_pictures ts))
-    ∙ ap (map text_of) (of_stripped (map group_of (with_pictures ts)))
+    ap (λ (l : List SequenceText). map renumbered_text (groups_of (map group_of l))) (with_stripped ts)
+    ∙ ap (λ (gs : List Group). map renumbered_text (groups_of gs)) (groups_stripped (with_pictures ts))
+    ∙ ap (map renumbered_text) (of_stripped (map group_of (with_pictures ts)))
     ∙ texts_stripped (groups_of (map group_of (with_pictures ts)))
 
 pictures_stripped : (ps : List PictureText) (previous : ℕ) → pictures_bytes previous (map stripped ps) ≡ pictures_bytes previous ps
@@ -138,7 +138,7 @@ either_stripped all [] = bare_stripped all
 either_stripped all (t ∷ ts) = bytes_stripped (t ∷ ts) 0
 
 by_stripped : (ts : List SequenceText) → joined_by (map stripped_text ts) ≡ joined_by ts
-by_stripped ts = ap (bytes_or_bare (map stripped_text ts)) (joined_stripped ts) ∙ either_stripped ts (joined ts)
+by_stripped ts = ap (bytes_or_bare (map stripped_text ts)) (joined_stripped ts) ∙ either_stripped ts (joined_sequences ts)
 
 pub joined_alike : (ts ts' : List SequenceText) → map stripped_text ts ≡ map stripped_text ts' → joined_by ts ≡ joined_by ts'
 joined_alike ts ts' same = sym (by_stripped ts) ∙ ap joined_by same ∙ by_stripped ts'
@@ -181,8 +181,8 @@ pictures_read (p ∷ ps) t index points previous rest fits =
     let u = text_for p.code previous p.payload in
     let length_of = 13 + length p.payload in
     let known = picture_unit p.code fits.0.code in
-    let q = picture_text index (points_with points u) u in
-    let later = pictures_read ps (with_more t (q ∷ [])) (suc index) (points_with points u) length_of rest fits.1 in
+    let q = picture_text_at index (points_up_to points u) u in
+    let later = pictures_read ps (with_more t (q ∷ [])) (suc index) (points_up_to points u) length_of rest fits.1 in
     record {
       first = later.first;
       index = later.index;

@@ -2,20 +2,20 @@
 use Rattle.std.specs.Prelude.{◌≡◌, ℕ, ◌≤◌, ◌<◌, ◌++◌, List, ◌∷◌, map, None}
 use Rattle.std.specs.List.{All}
 use Rattle.dirac_common.specs.declared.picture.Picture.{Picture}
-use Rattle.dirac_units.specs.Cut.{UnitText, start}
+use Rattle.dirac_units.specs.Cut.{UnitText, first_unit_place}
 use Rattle.dirac_content.specs.Raw.{raws}
 use Rattle.dirac_content.specs.Shown.{IsShown, Outcome, outcome}
-use Rattle.dirac_content.specs.StreamState.{begun}
+use Rattle.dirac_content.specs.StreamState.{stream_begun}
 use Rattle.dirac_edit_laws.specs.Cut.{cut_bytes, open_cut, part_rebuilt, part_shown}
 use Rattle.dirac_edit_laws.specs.Joined.{joined_bytes}
 use Rattle.dirac_edit_laws.specs.Laws.{IsFaultless, ShowsJust}
 use Rattle.dirac_edit_laws.specs.Later.{AreNotBefore}
-use Rattle.dirac_edit_laws.specs.Rebuilt.{picture_in, waiting_from}
+use Rattle.dirac_edit_laws.specs.Rebuilt.{rebuilt_picture, waiting_from}
 use Rattle.dirac_edit_laws.specs.Texts.{SequenceText, points_of, sequences}
 
 -- what units show that have no fault
 abbrev pub shown_by : List UnitText → List Picture
-shown_by units = (outcome begun start units None).shown
+shown_by units = (outcome stream_begun first_unit_place units None).shown
 
 -- one stream behind another: the units of both, and the pictures of both in order
 abbrev pub StreamsFollow : Type 0
@@ -39,7 +39,7 @@ JoinedStreamsStay =
 
 -- a sequence's pictures of a part, as a decoder of all of it rebuilds them
 abbrev pub part_pictures : ℕ → ℕ → SequenceText → List Picture
-part_pictures a b s = map picture_in (part_rebuilt a b s)
+part_pictures a b s = map rebuilt_picture (part_rebuilt a b s)
 
 -- within a sequence no picture behind point b leaves before one of those from point a up to it: keys, counted from the
 -- first picture behind point a, aren't less

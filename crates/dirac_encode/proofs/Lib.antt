@@ -1,7 +1,1 @@
-pub mod Waiting
-pub mod Stepping
-pub mod Going
-pub mod Finding
 pub mod AtIndex
-pub mod Reading
-pub mod OfRead

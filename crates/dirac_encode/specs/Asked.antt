@@ -7,8 +7,8 @@ use Rattle.dirac_encode_picture.specs.declared.prepared.Prepared.{Prepared}
 use Rattle.dirac_encode_picture.specs.Prepared.{blocks_in}
 
 -- the planned source that is asked for
-abbrev pub job_of : Asked → Job
-job_of a = record { planned = a.planned.now; source = a.source.now }
+abbrev pub asked_job : Asked → Job
+asked_job a = record { planned = a.planned.now; source = a.source.now }
 
 -- its blocks are those that are chosen for it, the same at each index
 abbrev pub HasChosenBlocks : Asked → Prepared → Type 0

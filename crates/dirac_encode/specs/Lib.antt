@@ -1,3 +1,3 @@
 pub mod Asked
-pub mod Going
-pub mod Alone
+pub use Rattle.dirac_encode_progress.specs.Going
+pub use Rattle.dirac_encode_progress.specs.Alone

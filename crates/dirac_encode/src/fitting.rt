@@ -11,7 +11,7 @@ ghost use Rattle.dirac_plan_laws.specs.Headers.{IsPlanned, header_of};
 ghost use Rattle.dirac_encode_laws.specs.Coded.{IsSource};
 ghost use Rattle.dirac_encode_laws.specs.Coding.{made, made_under};
 ghost use Rattle.dirac_encode_laws.specs.Fit.{IsLeast, fit, length_at};
-ghost use Rattle.dirac_encode.specs.Asked.{HasChosenBlocks, job_of};
+ghost use Rattle.dirac_encode.specs.Asked.{HasChosenBlocks, asked_job};
 
 use dirac_common::{LARGEST_INDEX, NoMemory, Picture, RowGate};
 use dirac_encode_picture::{Asked, Coded, Prepared, code_prepared, prepare_picture};
@@ -33,9 +33,9 @@ fn code_at(
     requires blocks { HasChosenBlocks asked.now prepared.now }
     requires index { IsIndex index }
     ensures payload { IfOk result (λ c. c.payload.items
-        ≡ (made (at_index asked.now.settings.now index) asked.now.refs.now (job_of asked.now)).payload) }
+        ≡ (made (at_index asked.now.settings.now index) asked.now.refs.now (asked_job asked.now)).payload) }
     ensures shown { IfOk result (λ c. c.shown
-        ≡ (made (at_index asked.now.settings.now index) asked.now.refs.now (job_of asked.now)).shown) }
+        ≡ (made (at_index asked.now.settings.now index) asked.now.refs.now (asked_job asked.now)).shown) }
 {
     code_prepared(alloc, prepared, asked, index)
 }
@@ -52,12 +52,12 @@ fn fit_by(
     requires prepared { IsPreparedFor asked.now prepared.now }
     requires blocks { HasChosenBlocks asked.now prepared.now }
     ensures least { IfOk result (λ r. IsLeast
-        (length_at asked.now.settings.now asked.now.refs.now (job_of asked.now))
+        (length_at asked.now.settings.now asked.now.refs.now (asked_job asked.now))
         budget asked.now.settings.now.index r.1) }
     ensures payload { IfOk result (λ r. r.0.payload.items
-        ≡ (made (at_index asked.now.settings.now r.1) asked.now.refs.now (job_of asked.now)).payload) }
+        ≡ (made (at_index asked.now.settings.now r.1) asked.now.refs.now (asked_job asked.now)).payload) }
     ensures shown { IfOk result (λ r. r.0.shown
-        ≡ (made (at_index asked.now.settings.now r.1) asked.now.refs.now (job_of asked.now)).shown) }
+        ≡ (made (at_index asked.now.settings.now r.1) asked.now.refs.now (asked_job asked.now)).shown) }
 {
     'indices: for index in asked.settings.index as u8..LARGEST_INDEX as u8 {
         let coded = code_at(alloc, prepared, asked, index)?;

@@ -1,17 +1,12 @@
 //! The encoder: from raw pictures to the bytes of a stream, and the pictures that these bytes decode to.
 #![tactic(auto)]
 
-mod coder;
-mod delivering;
-mod ending;
 mod fitting;
 mod pictures;
 mod planned;
-mod progress;
 mod shared;
 mod source;
 mod stream;
-mod units;
 
 pub use dirac_encode_laws::{Encoded, streams_show_their_pictures};
 pub use dirac_encode_picture::{Coded, choose_blocks, code_picture, code_with_blocks};

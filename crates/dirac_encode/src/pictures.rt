@@ -8,18 +8,17 @@ ghost use Rattle.dirac_types.specs.Settings.{IsAccepted};
 ghost use Rattle.dirac_sequence.specs.Written.{sequence_payload};
 ghost use Rattle.dirac_sources.specs.Sources.{raw_length as length_of};
 ghost use Rattle.dirac_plan.specs.Planning.{empty_planning};
-ghost use Rattle.dirac_encode_laws.specs.Encoding.{AnswersEncode, EndsStream, IsRecoveredUnder, behind, encoding_under};
+ghost use Rattle.dirac_encode_laws.specs.Encoding.{AnswersEncodedStream, EncodesToTheEnd, IsRecoveredUnder};
+ghost use Rattle.dirac_encode_laws.specs.Encoding.{answer_behind, encoding_under};
 ghost use Rattle.dirac_encode_laws.specs.Fit.{rule_of};
 ghost use Rattle.dirac_encode_laws.specs.Steps.{no_progress};
-ghost use Rattle.dirac_encode.specs.Alone.{WritesDue, WritesFrontOfRead};
-ghost use Rattle.dirac_encode.specs.Going.{so_far};
+ghost use Rattle.dirac_encode_progress.specs.Alone.{WritesDue, WritesFrontOfRead};
+ghost use Rattle.dirac_encode_progress.specs.Going.{so_far};
 
-use crate::coder::Coder;
-use crate::ending::put_last;
 use crate::planned::put_planned;
-use crate::progress::Progress;
 use dirac_common::RowGate;
 use dirac_encode_laws::{Encoded, streams_show_their_pictures};
+use dirac_encode_progress::{Coder, Progress, put_last};
 use dirac_io::{Filled, Sink, Source, fill};
 use dirac_plan::Planner;
 use dirac_plan_laws::plans_can_be_coded;
@@ -33,7 +32,7 @@ fn are_bytes(bytes: &[u8])
 
 /// The answer where that many bytes are left over whole pictures.
 fn behind_whole(left_over: usize) -> Encoded
-    ensures { result ≡ behind left_over }
+    ensures { result ≡ answer_behind left_over }
 {
     if left_over == 0 {
         Encoded::Done
@@ -57,11 +56,11 @@ pub(crate) fn put_pictures<R: Threads + Sync, S: Source, K: Sink, N: Sink, G: Ro
     requires bytes { length bytes.old ≡ length_of coder.now.settings.now }
     requires planner { planner.old ≡ empty_planning coder.now.settings.now }
     requires coding { so_far coding.old ≡ no_progress }
-    ensures encoded { IfSome (S.held source.old) (λ held. AnswersEncode result
+    ensures encoded { IfSome (S.held source.old) (λ held. AnswersEncodedStream result
         (encoding_under (rule_of coder.now.budget) coder.now.settings.now held)
         (K.taken out.old) (K.taken out.new) (N.taken side.old) (N.taken side.new)) }
     ensures recovered { IfSome (S.held source.old) (λ held.
-        EndsStream result → IsRecoveredUnder (rule_of coder.now.budget) coder.now.settings.now held) }
+        EncodesToTheEnd result → IsRecoveredUnder (rule_of coder.now.budget) coder.now.settings.now held) }
     // Whatever is answered, what was written is a front of the encoding of the bytes read by themselves.
     ensures front_of_read { IfSome (S.held source.old) (λ held. WritesFrontOfRead
         (rule_of coder.now.budget) coder.now.settings.now held (S.held source.new)

@@ -7,13 +7,12 @@ ghost use Rattle.dirac_sequence.specs.Written.{sequence_payload};
 ghost use Rattle.dirac_plan.specs.Planning.{is_closed, waiting_places};
 ghost use Rattle.dirac_encode_laws.specs.Fit.{rule_of};
 ghost use Rattle.dirac_encode_laws.specs.Steps.{StopsCoding};
-ghost use Rattle.dirac_encode.specs.Going.{LeadsOn, Lists, Stops, so_far};
+ghost use Rattle.dirac_encode_progress.specs.Going.{LeadsOn, PlanIsListed, Stops, so_far};
 
-use crate::coder::Coder;
-use crate::progress::Progress;
 use crate::source::put_source;
 use dirac_common::RowGate;
 use dirac_encode_laws::Encoded;
+use dirac_encode_progress::{Coder, Progress};
 use dirac_io::Sink;
 use dirac_plan::Planner;
 use dirac_plan_laws::plans_can_be_coded;
@@ -32,8 +31,8 @@ pub(crate) fn put_planned<R: Threads + Sync, K: Sink, N: Sink, G: RowGate>(
     requires header { coder.now.header.now ≡ sequence_payload coder.now.settings.now }
     requires settings { planner.old.settings ≡ coder.now.settings.now }
     requires ended { planner.old.ended ≡ true → ended ≡ true }
-    requires lists { Lists coder.now.settings.now ended planner.old (so_far coding.old) }
-    ensures lists { OnOk result (Lists coder.now.settings.now ended planner.new (so_far coding.new)) }
+    requires lists { PlanIsListed coder.now.settings.now ended planner.old (so_far coding.old) }
+    ensures lists { OnOk result (PlanIsListed coder.now.settings.now ended planner.new (so_far coding.new)) }
     ensures led { OnOk result (LeadsOn (rule_of coder.now.budget) coder.now.settings.now ended planner.old planner.new
         (so_far coding.old) (so_far coding.new)
         (K.taken out.old) (K.taken out.new) (N.taken side.old) (N.taken side.new)) }

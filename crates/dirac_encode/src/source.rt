@@ -18,16 +18,13 @@ ghost use Rattle.dirac_encode_laws.specs.Coding.{made_under};
 ghost use Rattle.dirac_encode_laws.specs.Fit.{rule_of};
 ghost use Rattle.dirac_encode_laws.specs.Steps.{IsCoded, IsFault, StopsCoding, StopsPicture};
 ghost use Rattle.dirac_encode_laws.specs.Stream.{unit};
-ghost use Rattle.dirac_encode.specs.Going.{joined, so_far};
+ghost use Rattle.dirac_encode_progress.specs.Going.{waiting_joined, so_far};
 
-use crate::coder::Coder;
-use crate::delivering::deliver;
 use crate::fitting::fit_picture;
-use crate::progress::Progress;
-use crate::units::put_header;
 use dirac_common::{NoMemory, Picture, RowGate};
 use dirac_encode_laws::Encoded;
 use dirac_encode_picture::{Coded, code_picture};
+use dirac_encode_progress::{Coder, Progress, deliver, put_header};
 use dirac_io::{Put, Sink, Unwritten};
 use dirac_picture::is_intra;
 use dirac_plan::Planned;
@@ -54,15 +51,15 @@ fn put_coded<K: Sink, N: Sink>(
     ensures refs { OnOk result (coding.new.refs
         ≡ committed coding.old.refs planned.now.retire (as_reference planned.now.code coded.shown)) }
     ensures waiting { OnOk result (coding.new.delivery
-        ≡ (delivered (joined coding.old.delivery planned.now.number coded.shown)).waiting) }
+        ≡ (delivered (waiting_joined coding.old.delivery planned.now.number coded.shown)).waiting) }
     ensures out { OnOk result (Appends (K.taken out.old) (K.taken out.new)
         (unit planned.now.code previous coded.payload.items)) }
     ensures side { OnOk result (Appends (N.taken side.old) (N.taken side.new)
-        (raws (delivered (joined coding.old.delivery planned.now.number coded.shown)).gone)) }
+        (raws (delivered (waiting_joined coding.old.delivery planned.now.number coded.shown)).gone)) }
     ensures out_front { AppendsFront (K.taken out.old) (K.taken out.new)
         (unit planned.now.code previous coded.payload.items) }
     ensures side_front { AppendsFront (N.taken side.old) (N.taken side.new)
-        (raws (delivered (joined coding.old.delivery planned.now.number coded.shown)).gone) }
+        (raws (delivered (waiting_joined coding.old.delivery planned.now.number coded.shown)).gone) }
     ensures stopped { IfErr result IsFault }
     ensures write_fault { result ≡ Err Encoded.WriteFault → Rose (K.faults out.old) (K.faults out.new) }
     ensures side_fault { result ≡ Err Encoded.SideFault → Rose (N.faults side.old) (N.faults side.new) }

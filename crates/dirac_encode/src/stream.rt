@@ -6,17 +6,17 @@ ghost use Rattle.dirac_io.specs.Faults.{Rose};
 ghost use Rattle.dirac_types.specs.Settings.{IsAccepted};
 ghost use Rattle.dirac_encode_laws.specs.Alike.{AreShownAlike};
 ghost use Rattle.dirac_encode_laws.specs.Coding.{own_index};
-ghost use Rattle.dirac_encode_laws.specs.Encoding.{AnswersEncode, EndsStream, IsRecovered, IsRecoveredUnder, encoding};
+ghost use Rattle.dirac_encode_laws.specs.Encoding.{AnswersEncodedStream, EncodesToTheEnd, IsRecovered};
+ghost use Rattle.dirac_encode_laws.specs.Encoding.{IsRecoveredUnder, encoding};
 ghost use Rattle.dirac_encode_laws.specs.Encoding.{encoding_under};
 ghost use Rattle.dirac_encode_laws.specs.Fit.{rule_of};
 ghost use Rattle.dirac_encode_laws.specs.Standing.{jobs_in};
-ghost use Rattle.dirac_encode.specs.Alone.{WritesDue, WritesFrontOfRead};
+ghost use Rattle.dirac_encode_progress.specs.Alone.{WritesDue, WritesFrontOfRead};
 
-use crate::coder::Coder;
 use crate::pictures::put_pictures;
-use crate::progress::Progress;
 use dirac_common::{NoMemory, RowGate};
 use dirac_encode_laws::{Encoded, streams_show_their_pictures};
+use dirac_encode_progress::{Coder, Progress};
 use dirac_io::{Sink, Source};
 use dirac_plan::Planner;
 use dirac_sequence::write_sequence;
@@ -39,10 +39,10 @@ pub fn encode_stream<R: Threads + Sync, S: Source, K: Sink, N: Sink, G: RowGate>
     requires { IsAccepted settings.now }
     // The answer, and what both sinks took, are those of the encoding; a fault or want of memory leaves a front of
     // each.
-    ensures encoded { IfSome (S.held source.old) (λ bytes. AnswersEncode result (encoding settings.now bytes)
+    ensures encoded { IfSome (S.held source.old) (λ bytes. AnswersEncodedStream result (encoding settings.now bytes)
         (K.taken out.old) (K.taken out.new) (N.taken side.old) (N.taken side.new)) }
     // A whole stream is decoded to what the side got, and at index 0 to the input.
-    ensures recovered { IfSome (S.held source.old) (λ bytes. EndsStream result → IsRecovered settings.now bytes) }
+    ensures recovered { IfSome (S.held source.old) (λ bytes. EncodesToTheEnd result → IsRecovered settings.now bytes) }
     // Where the settings ask for it, other decoders find in each picture what they need to show it alike.
     ensures alike { (bytes : List ℕ) → settings.now.alike ≡ 1
         → AreShownAlike own_index settings.now [] (jobs_in settings.now bytes) }
@@ -102,12 +102,12 @@ pub fn encode_by<R: Threads + Sync, S: Source, K: Sink, N: Sink, G: RowGate>(
 ) -> Encoded
     requires { IsAccepted coder.now.settings.now }
     // The answer, and what both sinks took, are those of the encoding under the rule of the budget.
-    ensures encoded { IfSome (S.held source.old) (λ bytes. AnswersEncode result
+    ensures encoded { IfSome (S.held source.old) (λ bytes. AnswersEncodedStream result
         (encoding_under (rule_of coder.now.budget) coder.now.settings.now bytes)
         (K.taken out.old) (K.taken out.new) (N.taken side.old) (N.taken side.new)) }
     // A whole stream is decoded to what the side got, and with index 0 for all pictures to the input.
     ensures recovered { IfSome (S.held source.old) (λ bytes.
-        EndsStream result → IsRecoveredUnder (rule_of coder.now.budget) coder.now.settings.now bytes) }
+        EncodesToTheEnd result → IsRecoveredUnder (rule_of coder.now.budget) coder.now.settings.now bytes) }
     // Whatever is answered, what was written is a front of the encoding of the bytes read by themselves.
     ensures front_of_read { IfSome (S.held source.old) (λ bytes. WritesFrontOfRead
         (rule_of coder.now.budget) coder.now.settings.now bytes (S.held source.new)

@@ -4,15 +4,15 @@ use Rattle.dirac_common.specs.declared.faults.Cause.TheVariants.{MissingEnd}
 use Rattle.dirac_common.specs.declared.faults.Fault.{Fault}
 use Rattle.dirac_common.specs.declared.picture.Picture.{Picture}
 use Rattle.dirac_units.specs.declared.info.ParseInfo.{ParseInfo}
-use Rattle.dirac_units.specs.Cut.{IsCut, UnitText, start}
+use Rattle.dirac_units.specs.Cut.{IsCut, UnitText, first_unit_place}
 use Rattle.dirac_content.specs.Shown.{Outcome, outcome}
-use Rattle.dirac_content.specs.StreamState.{begun}
+use Rattle.dirac_content.specs.StreamState.{stream_begun}
 use Rattle.dirac_encode_laws.specs.declared.answers.Encoded.{Encoded}
 use Rattle.dirac_encode_commands.specs.Delivered.{DeliversShown}
 
 -- nothing is delivered beside a stream of no byte: its end unit is missing
-no_end_unit : (units : List UnitText) (end : Option Fault) (o : Outcome) → IsCut start [] units end
-    → outcome begun start units end ≡ o → o.end ≡ None → ⊥
+no_end_unit : (units : List UnitText) (end : Option Fault) (o : Outcome) → IsCut first_unit_place [] units end
+    → outcome stream_begun first_unit_place units end ≡ o → o.end ≡ None → ⊥
 unfolding outcome
 no_end_unit [] end o cut same none =
     let missing : Option Fault = Some (record { unit = 0; at = 0; cause = MissingEnd }) in

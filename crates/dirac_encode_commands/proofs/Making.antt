@@ -20,12 +20,12 @@ use Rattle.dirac_sources.specs.Sources.{left_over, raw_length}
 use Rattle.dirac_encode_laws.specs.declared.answers.Encoded.{Encoded}
 use Rattle.dirac_encode_laws.specs.declared.answers.Encoded.TheVariants as encoded
 use Rattle.dirac_encode_laws.specs.Coding.{Made}
-use Rattle.dirac_encode_laws.specs.Encoding.{Encoding, behind, encoding, encoding_by, encoding_under}
+use Rattle.dirac_encode_laws.specs.Encoding.{Encoding, answer_behind, encoding, encoding_by, encoding_under}
 use Rattle.dirac_generator.specs.Generated.{chroma_across, chroma_down, generated_from, picture_count}
 use Rattle.dirac_generator.proofs.Lengths.{pictures_length}
 use Rattle.dirac_command_line.specs.declared.ended.Ended.{Ended}
 use Rattle.dirac_command_line.specs.declared.ended.Ended.TheVariants as ended
-use Rattle.dirac_encode_commands.specs.Making.{AnswersMake, AnswersUnmade, line_with, made_line, made_text, making}
+use Rattle.dirac_encode_commands.specs.Making.{AnswersMake, AnswersUnmade, make_line_with, made_line, made_text, making}
 
 -- chroma's sizes are those of the sequence header
 across_of : (a b : Bool) → ratio_across (if a then C444 else if b then C422 else C420) ≡ (if a then 1 else 2)
@@ -52,11 +52,11 @@ pub none_left : (t : Settings) (count : ℕ) → IsAccepted t → left_over t (g
 none_left t count is =
     ap (λ (k : ℕ). k % raw_length t) (pictures_length t count 0 ∙ ap (λ (k : ℕ). count * k) (same_count t is)) ∙ mul-mod_left count (raw_length t)
 
-behind_none : (n left : ℕ) → left ≡ 0 → behind left ≡ encoded.PartialPicture n → ⊥
-behind_none n left none is = let done : behind left ≡ encoded.Done = ap behind none in cc
+behind_none : (n left : ℕ) → left ≡ 0 → answer_behind left ≡ encoded.PartialPicture n → ⊥
+behind_none n left none is = let done : answer_behind left ≡ encoded.Done = ap answer_behind none in cc
 
 ending_whole : (enough : Bool) (n left : ℕ) → left ≡ 0
-    → (if enough then behind left else encoded.TooManyPictures) ≡ encoded.PartialPicture n → ⊥
+    → (if enough then answer_behind left else encoded.TooManyPictures) ≡ encoded.PartialPicture n → ⊥
 ending_whole true n left none is = behind_none n left none is
 ending_whole false n left none is = cc
 
@@ -80,9 +80,9 @@ pub whole_raw : (t : Settings) (count size : ℕ) → size ≡ picture_count t
     → count * size ≡ length (generated_from t count 0)
 whole_raw t count size is = ap (λ (k : ℕ). count * k) is ∙ sym (pictures_length t count 0)
 
-pub same_line : (count s s' r r' e e' : ℕ) → s ≡ s' → r ≡ r' → e ≡ e' → line_with count s r e ≡ line_with count s' r' e'
+pub same_line : (count s s' r r' e e' : ℕ) → s ≡ s' → r ≡ r' → e ≡ e' → make_line_with count s r e ≡ make_line_with count s' r' e'
 same_line count s s' r r' e e' stream raw exact =
-    ap (λ (k : ℕ). line_with count k r e) stream ∙ ap₂ (λ (k j : ℕ). line_with count s' k j) raw exact
+    ap (λ (k : ℕ). make_line_with count k r e) stream ∙ ap₂ (λ (k j : ℕ). make_line_with count s' k j) raw exact
 
 -- where there is no line, nothing is written
 pub nothing_made : (why : Ended) (t : Settings) (count : ℕ) (out : Option (List ℕ)) → AnswersUnmade why t count

@@ -16,8 +16,8 @@ abbrev pub making : Settings → ℕ → Encoding
 making t count = encoding t (generated_from t count 0)
 
 -- pictures=N stream=B raw=R exact=E, and a newline
-abbrev pub line_with : ℕ → ℕ → ℕ → ℕ → List ℕ
-line_with pictures stream raw exact =
+abbrev pub make_line_with : ℕ → ℕ → ℕ → ℕ → List ℕ
+make_line_with pictures stream raw exact =
     codes "pictures=" ++ (decimal pictures ++ (codes " stream=" ++ (decimal stream
     ++ (codes " raw=" ++ (decimal raw ++ (codes " exact=" ++ (decimal exact ++ codes "\n")))))))
 
@@ -25,7 +25,7 @@ line_with pictures stream raw exact =
 -- byte, the generated pictures of their numbers
 abbrev pub made_line : Settings → ℕ → List ℕ
 made_line t count =
-    line_with count (length (making t count).stream) (length (generated_from t count 0))
+    make_line_with count (length (making t count).stream) (length (generated_from t count 0))
     (exact_from t count 0 (raws (making t count).shown))
 
 -- what is written: the line, where all pictures were coded, and else nothing

@@ -3,7 +3,7 @@ ghost use Rattle.dirac_io.specs.Faults.{Rose};
 ghost use Rattle.dirac_types.specs.Settings.{IsAccepted};
 ghost use Rattle.dirac_encode_laws.specs.declared.answers.Encoded.TheVariants as encoded;
 ghost use Rattle.dirac_encode_commands.specs.Delivered.{DeliversShown};
-ghost use Rattle.dirac_encode_commands.specs.Making.{AnswersMake, AnswersUnmade, line_with, made_line};
+ghost use Rattle.dirac_encode_commands.specs.Making.{AnswersMake, AnswersUnmade, make_line_with, made_line};
 ghost use Rattle.dirac_encode_commands.specs.Making.{making};
 
 use dirac_command_line::Ended;
@@ -95,7 +95,7 @@ fn line_of(
     raw: u64,
     exact: u32,
 ) -> Result<String, NoMemory>
-    ensures { IfOk result (λ line. string_bytes line ≡ line_with pictures stream raw exact) }
+    ensures { IfOk result (λ line. string_bytes line ≡ make_line_with pictures stream raw exact) }
 {
     Ok(format!(in alloc; "pictures={pictures} stream={stream} raw={raw} exact={exact}\n")?)
 }

@@ -93,7 +93,7 @@ mode_few finer = by_test (finer == 0)
     by_test true = omega arith
     by_test false = omega arith
 
-pub transform_written : (t : Settings) → IsCodable t → written.IsTransform (transform_of t)
+pub transform_written : (t : Settings) → IsCodable t → written.IsWritableTransform (transform_of t)
 transform_written t is = record {
   wavelet = is.wavelet;
   at_least_1 = is.depth.0;

@@ -9,10 +9,10 @@ use Rattle.dirac_refs.specs.Delivery.{Leaving, deliver, flushed, pushed_all}
 use Rattle.dirac_content.proofs.Flushing.{pushed_append}
 use Rattle.dirac_encode_laws.specs.declared.answers.Encoded.{Encoded}
 use Rattle.dirac_encode_laws.specs.declared.answers.Encoded.TheVariants as encoded
-use Rattle.dirac_encode_laws.specs.Coding.{IndexRule, Job, Made, coded_under, made_under, pushed, refs_after, shown_of, waiting_of}
+use Rattle.dirac_encode_laws.specs.Coding.{IndexRule, Job, Made, coded_under, made_under, keyed_reconstructions, refs_after, shown_of, waiting_of}
 use Rattle.dirac_encode_laws.specs.Encoding.{Encoding, before_long, encoding_by, first_long, is_short, stream_before}
 use Rattle.dirac_encode_laws.specs.Standing.{AreShort, Leave, pushed_now}
-use Rattle.dirac_encode_laws.specs.Steps.{last_units, leaving, picture_units}
+use Rattle.dirac_encode_laws.specs.Steps.{last_units, leaving_with, picture_units}
 use Rattle.dirac_encode_laws.specs.Stream.{closing, header_before, last_length, picture_length, picture_unit, stream_from, units_of, end_unit, header_length, header_unit}
 use Rattle.dirac_plan_laws.specs.Order.{by_number}
 use Rattle.dirac_picture.proofs.Taken.{dropped_next}
@@ -54,17 +54,17 @@ units_more t previous ps p =
 
 -- ---- the pictures that leave
 
-pub gone_parts : (ps qs : List Made) → (pushed_now (ps ++ qs)).gone ≡ (pushed_now ps).gone ++ (pushed_all (pushed_now ps).waiting (pushed qs)).gone
+pub gone_parts : (ps qs : List Made) → (pushed_now (ps ++ qs)).gone ≡ (pushed_now ps).gone ++ (pushed_all (pushed_now ps).waiting (keyed_reconstructions qs)).gone
 gone_parts ps qs =
-    ap (λ l. (pushed_all [] l).gone) (map-append waiting_of ps qs) ∙ ap (λ (l : Leaving). l.gone) (pushed_append [] (pushed ps) (pushed qs))
+    ap (λ l. (pushed_all [] l).gone) (map-append waiting_of ps qs) ∙ ap (λ (l : Leaving). l.gone) (pushed_append [] (keyed_reconstructions ps) (keyed_reconstructions qs))
 
-pub gone_more : (ps : List Made) (p : Made) → (pushed_now (ps ++ p ∷ [])).gone ≡ (pushed_now ps).gone ++ (leaving p (pushed_now ps).waiting).gone
+pub gone_more : (ps : List Made) (p : Made) → (pushed_now (ps ++ p ∷ [])).gone ≡ (pushed_now ps).gone ++ (leaving_with p (pushed_now ps).waiting).gone
 gone_more ps p =
-    gone_parts ps (p ∷ []) ∙ ap (λ l. (pushed_now ps).gone ++ l) (append-nil (leaving p (pushed_now ps).waiting).gone)
+    gone_parts ps (p ∷ []) ∙ ap (λ l. (pushed_now ps).gone ++ l) (append-nil (leaving_with p (pushed_now ps).waiting).gone)
 
-pub waiting_more : (ps : List Made) (p : Made) → (pushed_now (ps ++ p ∷ [])).waiting ≡ (leaving p (pushed_now ps).waiting).waiting
+pub waiting_more : (ps : List Made) (p : Made) → (pushed_now (ps ++ p ∷ [])).waiting ≡ (leaving_with p (pushed_now ps).waiting).waiting
 waiting_more ps p =
-    ap (λ l. (pushed_all [] l).waiting) (map-append waiting_of ps (p ∷ [])) ∙ ap (λ (l : Leaving). l.waiting) (pushed_append [] (pushed ps) (pushed (p ∷ [])))
+    ap (λ l. (pushed_all [] l).waiting) (map-append waiting_of ps (p ∷ [])) ∙ ap (λ (l : Leaving). l.waiting) (pushed_append [] (keyed_reconstructions ps) (keyed_reconstructions (p ∷ [])))
 
 -- ---- what is still to come
 
@@ -76,9 +76,9 @@ pub record Ahead (e : Encoding) (stream : List ℕ) (shown : List Picture) : Typ
   pub shown_is : e.shown ≡ shown ++ later
 
 shown_ahead : (ps qs : List Made) → Leave (ps ++ qs)
-    → by_number (length (ps ++ qs)) (map shown_of (ps ++ qs)) ≡ (pushed_now ps).gone ++ ((pushed_all (pushed_now ps).waiting (pushed qs)).gone ++ flushed (pushed_now (ps ++ qs)).waiting)
+    → by_number (length (ps ++ qs)) (map shown_of (ps ++ qs)) ≡ (pushed_now ps).gone ++ ((pushed_all (pushed_now ps).waiting (keyed_reconstructions qs)).gone ++ flushed (pushed_now (ps ++ qs)).waiting)
 shown_ahead ps qs leave =
-    let gone = (pushed_all (pushed_now ps).waiting (pushed qs)).gone in
+    let gone = (pushed_all (pushed_now ps).waiting (keyed_reconstructions qs)).gone in
     sym leave ∙ ap (λ l. l ++ flushed (pushed_now (ps ++ qs)).waiting) (gone_parts ps qs) ∙ append_assoc (pushed_now ps).gone gone (flushed (pushed_now (ps ++ qs)).waiting)
 
 ahead_by : (t : Settings) (answer : Encoded) (ps qs : List Made) (o : Option Made) → AreShort t ps → Leave (ps ++ qs) → Ahead (encoding_by t answer (ps ++ qs) o) (units_of t 0 ps) (pushed_now ps).gone
@@ -88,7 +88,7 @@ ahead_by t answer ps qs None short leave =
     let last = closing t (ps ++ qs) in
     record {
       rest = more ++ last;
-      later = (pushed_all (pushed_now ps).waiting (pushed qs)).gone ++ flushed (pushed_now (ps ++ qs)).waiting;
+      later = (pushed_all (pushed_now ps).waiting (keyed_reconstructions qs)).gone ++ flushed (pushed_now (ps ++ qs)).waiting;
       stream_is = ap (λ l. l ++ last) (units_parts t 0 ps qs) ∙ append_assoc here more last;
       shown_is = shown_ahead ps qs leave;
     }
@@ -100,9 +100,9 @@ ahead_by t answer ps qs (Some m) short leave =
     let last = header_before t m (last_length 0 (ps ++ rs)) in
     record {
       rest = more ++ last;
-      later = (pushed_all (pushed_now ps).waiting (pushed rs)).gone;
+      later = (pushed_all (pushed_now ps).waiting (keyed_reconstructions rs)).gone;
       stream_is = ap (λ l. stream_before t l m) before ∙ ap (λ l. l ++ last) (units_parts t 0 ps rs) ∙ append_assoc here more last;
-      shown_is = ap (λ l. deliver (pushed l)) before ∙ gone_parts ps rs;
+      shown_is = ap (λ l. deliver (keyed_reconstructions l)) before ∙ gone_parts ps rs;
     }
 
 -- pictures are coded, and perhaps others follow
@@ -122,7 +122,7 @@ ends_long t answer ps q qs short long =
     let found : first_long t (ps ++ q ∷ qs) ≡ Some q = first_long_parts t ps (q ∷ qs) short ∙ ap (λ (b : Bool). if b then first_long t qs else Some q) long in
     let before : before_long t (ps ++ q ∷ qs) ≡ ps = before_long_parts t ps (q ∷ qs) short ∙ ap (λ (b : Bool). ps ++ (if b then q ∷ before_long t qs else [])) long ∙ append-nil ps in
     ap (encoding_by t answer (ps ++ q ∷ qs)) found
-    ∙ ap (λ l. record { answer = encoded.UnitTooLong q.coded.header.number; stream = stream_before t l q; shown = deliver (pushed l) }) before
+    ∙ ap (λ l. record { answer = encoded.UnitTooLong q.coded.header.number; stream = stream_before t l q; shown = deliver (keyed_reconstructions l) }) before
 
 -- at least one follows: its sequence header, where it has one, comes next
 pub ahead_next : (t : Settings) (answer : Encoded) (ps : List Made) (q : Made) (qs : List Made) → AreShort t ps → Leave (ps ++ q ∷ qs)
@@ -143,7 +143,7 @@ ahead_next t answer ps q qs short leave = by (is_short t q) refl
         let a = ahead t answer all qs (all_more (λ m. is_short t m ≡ true) ps q short e) (subst Leave parts leave) in
         let own = picture_unit t q (last_length 0 ps) in
         let text : units_of t 0 all ≡ (here ++ head) ++ own = units_more t 0 ps q ∙ sym (append_assoc here head own) in
-        let gone = (leaving q (pushed_now ps).waiting).gone in
+        let gone = (leaving_with q (pushed_now ps).waiting).gone in
         let b : Ahead (encoding_by t answer (all ++ qs) (first_long t (all ++ qs))) (here ++ head) (pushed_now ps).gone = record {
           rest = own ++ a.rest;
           later = gone ++ a.later;

@@ -26,9 +26,9 @@ use Rattle.dirac_analysis.specs.Analysis.{plane_bands}
 use Rattle.dirac_analysis.proofs.Undone.{planes_kept}
 use Rattle.dirac_content.specs.Content.{bands_of as bands_in, compensation, height_of, named, plane_of, predicted_among, rebuilt, residual_among, samples_from, width_of}
 use Rattle.dirac_plan.specs.declared.planned.Planned.{Planned}
-use Rattle.dirac_encode_laws.specs.Coded.{IsSource, are_zero_bands, bands_of, coded_of, coded_with, is_left_out, is_zero_residual, kind_of, left_of, less_prediction, motion_of, residual_of, residual_unless_left_out, transform_of}
+use Rattle.dirac_encode_laws.specs.Coded.{IsSource, are_zero_bands, quantised_bands_of, coded_of, coded_with, is_left_out, is_zero_residual, kind_of, residual_plane, plane_less_prediction, motion_of, residual_of, residual_unless_left_out, transform_of}
 use Rattle.dirac_encode_laws.specs.Coding.{AreAtIndexZero, IndexRule, Job, blank, coded_under, job_of, jobs_of, made_under, own_index, refs_after, shown_of}
-use Rattle.dirac_encode_laws.specs.Laws.{AreMade, AreNumbered, GivesIndices, IsWhole, JobsAreKept, SourcesAreKept, SourcesAreKeptUnder}
+use Rattle.dirac_encode_laws.specs.Laws.{AreMade, AreNumbered, GivesIndices, IsWholePicture, JobsAreKept, SourcesAreKept, SourcesAreKeptUnder}
 use Rattle.dirac_encode_laws.specs.Tables.{TablesAreChosen}
 use Rattle.dirac_encode_laws.specs.Codable.{IsCodable}
 use Rattle.dirac_encode_laws.proofs.Coding.{clipped_again, codable}
@@ -54,7 +54,7 @@ zip_again (v ∷ vs) (p ∷ ps) few = ap₂ (λ (x : ℤ) (xs : List ℤ). x ∷
     again : (v p : ℤ) → (v -ℤ p) +ℤ p ≡ v
     again v p = omega (arith, ints)
 
-added_again : (t : Table) (predicted : List ℤ) → length t.values ≤ length predicted → with_prediction (less_prediction t predicted) predicted ≡ t
+added_again : (t : Table) (predicted : List ℤ) → length t.values ≤ length predicted → with_prediction (plane_less_prediction t predicted) predicted ≡ t
 added_again t predicted few = ap (λ (vs : List ℤ). record { width = t.width; height = t.height; values = vs }) (zip_again t.values predicted few)
 
 length-zip : (vs ps : List ℤ) → length vs ≤ length ps → length (zip2 (λ v other. v -ℤ other) vs ps) ≡ length vs
@@ -62,22 +62,22 @@ length-zip [] ps few = refl
 length-zip (v ∷ vs) [] few = absurd (omega (arith, few))
 length-zip (v ∷ vs) (p ∷ ps) few = ap suc (length-zip vs ps (omega (arith, few)))
 
-pub whole_plane : (p : Picture) (o : Component) → IsWhole p → length (plane_of p o).values ≡ (plane_of p o).width * (plane_of p o).height
+pub whole_plane : (p : Picture) (o : Component) → IsWholePicture p → length (plane_of p o).values ≡ (plane_of p o).width * (plane_of p o).height
 whole_plane p component.Y is = is.y
 whole_plane p component.U is = is.u
 whole_plane p component.V is = is.v
 
 bands_at_zero : (t : Settings) (plane : Table) (width height : ℕ) → IsCodable t → t.index ≡ 0 → plane.width ≡ width → plane.height ≡ height → length plane.values ≡ plane.width * plane.height
-    → residual (transform_of t) Inter (bands_of t Inter plane) width height ≡ plane
+    → residual (transform_of t) Inter (quantised_bands_of t Inter plane) width height ≡ plane
 bands_at_zero t plane width height codes none ew eh whole =
-    ap₂ (λ (w h : ℕ). residual (transform_of t) Inter (bands_of t Inter plane) w h) (sym ew) (sym eh)
+    ap₂ (λ (w h : ℕ). residual (transform_of t) Inter (quantised_bands_of t Inter plane) w h) (sym ew) (sym eh)
     ∙ ap (λ index. residual (transform_of t) Inter (plane_bands Inter (transform_of t) t.finer index plane) plane.width plane.height) none
     ∙ planes_kept Inter (transform_of t) t.finer plane codes.wavelet whole
 
 intra_at_zero : (t : Settings) (plane : Table) (width height : ℕ) → IsCodable t → t.index ≡ 0 → plane.width ≡ width → plane.height ≡ height → length plane.values ≡ plane.width * plane.height
-    → residual (transform_of t) Intra (bands_of t Intra plane) width height ≡ plane
+    → residual (transform_of t) Intra (quantised_bands_of t Intra plane) width height ≡ plane
 intra_at_zero t plane width height codes none ew eh whole =
-    ap₂ (λ (w h : ℕ). residual (transform_of t) Intra (bands_of t Intra plane) w h) (sym ew) (sym eh)
+    ap₂ (λ (w h : ℕ). residual (transform_of t) Intra (quantised_bands_of t Intra plane) w h) (sym ew) (sym eh)
     ∙ ap (λ index. residual (transform_of t) Intra (plane_bands Intra (transform_of t) t.finer index plane) plane.width plane.height) none
     ∙ planes_kept Intra (transform_of t) t.finer plane codes.wavelet whole
 
@@ -96,13 +96,13 @@ length-predicted : (s : Sequence) (m : CodedMotion) (first second : Option Pictu
 length-predicted s m None second o some = absurd (some refl)
 length-predicted s m (Some first) second o some = length-filled (width_of s o) (height_of s o) (predicted_at (compensation s m first second o))
 
-part_bands : (t : Settings) (refs : List Picture) (q : Planned) (m : Option CodedMotion) (p : Picture) (o : Component) → bands_in (residual_of t refs (header_of q) m p) o ≡ bands_of t (kind_of m) (left_of t refs (header_of q) m p o)
+part_bands : (t : Settings) (refs : List Picture) (q : Planned) (m : Option CodedMotion) (p : Picture) (o : Component) → bands_in (residual_of t refs (header_of q) m p) o ≡ quantised_bands_of t (kind_of m) (residual_plane t refs (header_of q) m p o)
 part_bands t refs q m p component.Y = refl
 part_bands t refs q m p component.U = refl
 part_bands t refs q m p component.V = refl
 
 -- a plane of a source
-plane_kept : (t : Settings) (refs : List Picture) (q : Planned) (p : Picture) (m : Option CodedMotion) (o : Component) → IsCodable t → IsSource t p → IsWhole p → (is_intra q.code ≡ false → named refs q.ref1 ≡ None → ⊥) → t.index ≡ 0
+plane_kept : (t : Settings) (refs : List Picture) (q : Planned) (p : Picture) (m : Option CodedMotion) (o : Component) → IsCodable t → IsSource t p → IsWholePicture p → (is_intra q.code ≡ false → named refs q.ref1 ≡ None → ⊥) → t.index ≡ 0
     → (m ≡ None → is_intra q.code ≡ true) → ((x : CodedMotion) → m ≡ Some x → is_intra q.code ≡ false)
     → samples_from (sequence_of t) refs (header_of q) m (residual_unless_left_out t m (residual_of t refs (header_of q) m p)) o ≡ plane_of p o
 plane_kept t refs q p None o codes source whole found none stays moves =
@@ -117,7 +117,7 @@ plane_kept t refs q p (Some m) o codes source whole found none stays moves =
     let s = sequence_of t in
     let plane = source_plane t p o source in
     let ps = predicted_among s m (named refs q.ref1) (named refs q.ref2) o in
-    let left = less_prediction (plane_of p o) ps in
+    let left = plane_less_prediction (plane_of p o) ps in
     let r = residual_of t refs (header_of q) (Some m) p in
     let len : length ps ≡ width_of s o * height_of s o = length-predicted s m (named refs q.ref1) (named refs q.ref2) o (found (moves m refl)) in
     let count : length (plane_of p o).values ≡ width_of s o * height_of s o = whole_plane p o whole ∙ ap₂ (λ (w h : ℕ). w * h) plane.across plane.down in
@@ -143,7 +143,7 @@ parts_same : (n n' : ℕ) (a a' b b' c c' : Table) → n ≡ n' → a ≡ a' →
 parts_same n n' a a' b b' c c' e f g h = rw (e, f, g, h) refl
 
 -- a source is shown again
-pub kept_with : (t : Settings) (refs : List Picture) (q : Planned) (p : Picture) (m : Option CodedMotion) → IsAccepted t → IsSource t p → IsWhole p → IsPlanned q → are_listed refs (header_of q) ≡ true
+pub kept_with : (t : Settings) (refs : List Picture) (q : Planned) (p : Picture) (m : Option CodedMotion) → IsAccepted t → IsSource t p → IsWholePicture p → IsPlanned q → are_listed refs (header_of q) ≡ true
     → (m ≡ None → is_intra q.code ≡ true) → ((x : CodedMotion) → m ≡ Some x → is_intra q.code ≡ false) → p.number ≡ q.number → t.index ≡ 0 → rebuilt (sequence_of t) refs (coded_with t refs q p m) ≡ p
 kept_with t refs q p m accepted source whole planned found stays moves number none =
     let codes = codable t accepted in
@@ -151,7 +151,7 @@ kept_with t refs q p m accepted source whole planned found stays moves number no
     λ o. plane_kept t refs q p m o codes source whole (first_found refs q planned found) none stays moves in
     parts_same q.number p.number _ p.y _ p.u _ p.v (sym number) (kept component.Y) (kept component.U) (kept component.V)
 
-pub source_kept : (t : Settings) (refs : List Picture) (q : Planned) (p : Picture) → IsAccepted t → IsSource t p → IsWhole p → IsPlanned q → are_listed refs (header_of q) ≡ true
+pub source_kept : (t : Settings) (refs : List Picture) (q : Planned) (p : Picture) → IsAccepted t → IsSource t p → IsWholePicture p → IsPlanned q → are_listed refs (header_of q) ≡ true
     → p.number ≡ q.number → t.index ≡ 0 → rebuilt (sequence_of t) refs (coded_of t refs q p) ≡ p
 source_kept t refs q p accepted source whole planned found number none =
     let known = motion_is t refs q p (is_intra q.code) _ refl in
@@ -199,7 +199,7 @@ each_numbered : (pictures : List Picture) (qs : List Planned) → AreNumbered 0 
 each_numbered pictures [] all below = tt
 each_numbered pictures (q ∷ qs) all below = (omega (arith, numbered_at pictures 0 q.number all below.0), each_numbered pictures qs all below.1)
 
-kept_from : (f : IndexRule) → GivesIndices f → (t : Settings) (pictures refs : List Picture) (qs : List Planned) → IsAccepted t → AllByRecursion (IsSource t) pictures → AllByRecursion IsWhole pictures → AllByRecursion (λ (q : Planned). q.number < length pictures) qs
+kept_from : (f : IndexRule) → GivesIndices f → (t : Settings) (pictures refs : List Picture) (qs : List Planned) → IsAccepted t → AllByRecursion (IsSource t) pictures → AllByRecursion IsWholePicture pictures → AllByRecursion (λ (q : Planned). q.number < length pictures) qs
     → AllByRecursion IsPlanned qs → AllByRecursion (λ (q : Planned). (source_of pictures q).number ≡ q.number) qs → AreMade t refs (coded_under f t refs (map (job_of pictures) qs)) → AreAtIndexZero f t refs (map (job_of pictures) qs)
     → map shown_of (coded_under f t refs (map (job_of pictures) qs)) ≡ map (source_of pictures) qs
 unfolding coded_under AreAtIndexZero
@@ -209,7 +209,7 @@ kept_from f gives t pictures refs (q ∷ qs) accepted sources whole below planne
     let m = made_under f t refs j in
     let index = f t refs j in
     let source : IsSource t (source_of pictures q) = picture_at (IsSource t) pictures q.number sources below.0 in
-    let one = source_kept (at_index t index) refs q (source_of pictures q) (accepted_at t index accepted (gives t refs j accepted)) (source_with t index (source_of pictures q) source) (picture_at IsWhole pictures q.number whole below.0) planned.0 all.0.found numbers.0 none.0 in
+    let one = source_kept (at_index t index) refs q (source_of pictures q) (accepted_at t index accepted (gives t refs j accepted)) (source_with t index (source_of pictures q) source) (picture_at IsWholePicture pictures q.number whole below.0) planned.0 all.0.found numbers.0 none.0 in
     ap₂ (λ (x : Picture) (xs : List Picture). x ∷ xs) one (kept_from f gives t pictures (refs_after refs m) qs accepted sources whole below.1 planned.1 numbers.1 all.1 none.1)
 
 pub jobs_kept : JobsAreKept

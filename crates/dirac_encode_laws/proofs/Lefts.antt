@@ -35,8 +35,8 @@ use Rattle.dirac_analysis.specs.Fits.{AreDifferences, AreSamples}
 use Rattle.dirac_content.specs.Content as content
 use Rattle.dirac_content.specs.Content.{compensation, height_of, named, plane_of, predicted_among, up_of, width_of}
 use Rattle.dirac_content.proofs.Covering.{from_one, from_two}
-use Rattle.dirac_encode_laws.specs.Coded.{IsSource, less_prediction, motion_with}
-use Rattle.dirac_decide.specs.Modes.{HasSamples}
+use Rattle.dirac_encode_laws.specs.Coded.{IsSource, plane_less_prediction, motion_with}
+use Rattle.dirac_decide.specs.Modes.{HasDcSamples}
 use Rattle.dirac_motion.specs.Chosen.{IsChosen}
 
 -- ---- sources are pictures of the sequence
@@ -103,7 +103,7 @@ motion_fits t code b is c = record {
   table = c.table;
 }
 
-dc_at : (xs : List Block) (k : ℕ) (o : Component) → All HasSamples xs → IsSample (obmc.dc_of o (get_or xs k grey))
+dc_at : (xs : List Block) (k : ℕ) (o : Component) → All HasDcSamples xs → IsSample (obmc.component_dc o (get_or xs k grey))
 dc_at xs k o all = elim (cases_lt k (length xs)) [
   | inl inside ↦ of o (get_or xs k grey) (all k grey inside)
   | inr past ↦ rw (get_or_past xs k grey past) (of o grey (record { y = zero_sample; u = zero_sample; v = zero_sample }))
@@ -111,13 +111,13 @@ dc_at xs k o all = elim (cases_lt k (length xs)) [
   zero_sample : IsSample (pos 0)
   zero_sample = record { least = omega (arith, ints); most = omega (arith, ints) }
 
-  of : (o : Component) (b : Block) → HasSamples b → IsSample (obmc.dc_of o b)
+  of : (o : Component) (b : Block) → HasDcSamples b → IsSample (obmc.component_dc o b)
   of component.Y b is = is.y
   of component.U b is = is.u
   of component.V b is = is.v
 
 -- what a plane is predicted from
-motion_of : (s : Sequence) (o : Component) (m : obmc.Compensation) → IsSequence s → m.width ≡ width_of s o → m.height ≡ height_of s o → obmc.IsPredictable m → obmc.IsMotion m
+motion_of : (s : Sequence) (o : Component) (m : obmc.Compensation) → IsSequence s → m.width ≡ width_of s o → m.height ≡ height_of s o → obmc.IsPredictable m → obmc.IsCompensation m
 motion_of s o m lawful w h is =
     let size = part_size s o lawful in
     record {
@@ -184,7 +184,7 @@ zip_small (v ∷ vs) (p ∷ ps) first second zero d l = apart v p (first 0 d (om
 zip_small (v ∷ vs) (p ∷ ps) first second (suc k) d l =
     zip_small vs ps (λ i e n. first (suc i) e (omega (arith, n))) (λ i e n. second (suc i) e (omega (arith, n))) k d (omega (arith, l))
 
-pub differences_small : (t : Table) (predicted : List ℤ) → All IsSample t.values → All IsSample predicted → AreDifferences (less_prediction t predicted).values
+pub differences_small : (t : Table) (predicted : List ℤ) → All IsSample t.values → All IsSample predicted → AreDifferences (plane_less_prediction t predicted).values
 differences_small t predicted samples small = zip_small t.values predicted samples small
 
 -- ---- references that are found

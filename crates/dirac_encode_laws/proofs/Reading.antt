@@ -33,27 +33,27 @@ use Rattle.dirac_header.proofs.PredictionSpelled.{prediction_spelled}
 use Rattle.dirac_blocks.specs.Decisions.{block_decisions, least_numbers}
 use Rattle.dirac_blocks.specs.Grammar.{blocks}
 use Rattle.dirac_block_table.specs.Tables.{BlockTable}
-use Rattle.dirac_blocks.specs.Written.{AreShort, with_block, with_lists}
+use Rattle.dirac_blocks.specs.Written.{ListsHaveShortBlocks, with_block, with_lists}
 use Rattle.dirac_blocks.proofs.Spelled.{table_spelled}
 use Rattle.dirac_common.specs.declared.formats.Component.{Component}
 use Rattle.dirac_common.specs.declared.formats.Component.TheVariants as component
 use Rattle.dirac_picture.specs.declared.coded.CodedMotion.{CodedMotion}
 use Rattle.dirac_picture.specs.declared.coded.CodedResidual.{CodedResidual}
-use Rattle.dirac_picture.specs.Grammar.{are_listed, chroma_height, chroma_width, is_intra, is_listed, motion, picture, picture_read, prediction_fields, residual, residual_unless, zero_residual}
+use Rattle.dirac_picture.specs.Grammar.{are_listed, chroma_height, chroma_width, is_intra, is_listed, motion, picture, picture_read, prediction_fields, residual_fields, residual_unless, zero_residual}
 use Rattle.dirac_picture.specs.Writable.{IsWritten}
 use Rattle.dirac_picture.specs.Written.{with_coefficients, with_flag, with_residual}
-use Rattle.dirac_encode_laws.specs.Payloads.{HasSpelledBlocks, payload_of, with_blocks, with_motion, with_picture}
+use Rattle.dirac_encode_laws.specs.Payloads.{HasSpelledBlocks, payload_of, with_blocks, with_motion, with_coded_picture}
 use Rattle.dirac_picture.proofs.Spelled.{behind_align, fields_spelled, flag_spelled, left_out, motion_spelled, no_flag, no_motion, not_left_out, picture_spelled, whole_starts}
 use Rattle.dirac_picture.proofs.Written.{residual_written}
 use Rattle.dirac_analysis.specs.Fits.{AreDifferences, AreLevelBands}
 use Rattle.dirac_analysis.proofs.Fitting.{planes_fit, samples_small}
 use Rattle.dirac_content.specs.Content.{IsPicture, height_of, named, plane_of, width_of}
 use Rattle.dirac_plan.specs.declared.planned.Planned.{Planned}
-use Rattle.dirac_encode_laws.specs.Coded.{IsPlane, IsSource, bands_of, coded_with, is_left_out, kind_of, left_of, motion_with, residual_of, residual_unless_left_out, transform_of}
+use Rattle.dirac_encode_laws.specs.Coded.{IsSourcePlane, IsSource, quantised_bands_of, coded_with, is_left_out, kind_of, residual_plane, motion_with, residual_of, residual_unless_left_out, transform_of}
 use Rattle.dirac_encode_laws.specs.Laws.{JobsAreRead, JobsAreSmall}
 use Rattle.dirac_encode_laws.specs.Tables.{TablesAreChosen}
 use Rattle.dirac_motion.specs.Chosen.{ChosenTablesFit, IsChosen, chosen}
-use Rattle.dirac_encode_laws.specs.Codable.{AreSmall, IsCodable}
+use Rattle.dirac_encode_laws.specs.Codable.{ResidualIsSmall, IsCodable}
 use Rattle.dirac_encode_laws.proofs.Coding.{bands_fit, bands_writable, bands_small, codable, is_written}
 use Rattle.dirac_encode_laws.proofs.Headers.{length-bytes_in}
 use Rattle.dirac_encode_laws.proofs.InBytes.{bytes_again}
@@ -79,7 +79,7 @@ pub record IsLeft (width height : ℕ) (t : Table) : Type 0 where
   pub down : t.height ≡ height
   pub small : AreDifferences t.values
 
-pub source_plane : (t : Settings) (p : Picture) (o : Component) → IsSource t p → IsPlane (width_of (sequence_of t) o) (height_of (sequence_of t) o) (plane_of p o)
+pub source_plane : (t : Settings) (p : Picture) (o : Component) → IsSource t p → IsSourcePlane (width_of (sequence_of t) o) (height_of (sequence_of t) o) (plane_of p o)
 unfolding sequence_of
 source_plane t p component.Y is = is.y
 source_plane t p component.U is = is.u
@@ -96,7 +96,7 @@ second_found refs q is found two =
     found_is refs q.ref2 some (and_parts (is_listed refs q.ref1) (is_listed refs q.ref2) found).1
 
 pub left_fits : (t : Settings) (refs : List Picture) (q : Planned) (p : Picture) (m : Option CodedMotion) (o : Component) → IsAccepted t → AllByRecursion (IsSource t) refs → IsSource t p → IsPlanned q → are_listed refs (header_of q) ≡ true
-    → Moves t q m → IsLeft (width_of (sequence_of t) o) (height_of (sequence_of t) o) (left_of t refs (header_of q) m p o)
+    → Moves t q m → IsLeft (width_of (sequence_of t) o) (height_of (sequence_of t) o) (residual_plane t refs (header_of q) m p o)
 left_fits t refs q p None o accepted listed source planned found (stays intra) =
     let plane = source_plane t p o source in
     record { across = plane.across; down = plane.down; small = samples_small (plane_of p o).values plane.samples }
@@ -110,10 +110,10 @@ left_fits t refs q p (Some m) o accepted listed source planned found (moves b in
           (second_found refs q planned found));
     }
 
-level_bands : (t : Settings) (kind : Kind) (width height : ℕ) (plane : Table) → IsCodable t → IsLeft width height plane → AreLevelBands (transform_of t).counts t.finer (lowest_size width t.depth) (lowest_size height t.depth) t.depth (bands_of t kind plane)
+level_bands : (t : Settings) (kind : Kind) (width height : ℕ) (plane : Table) → IsCodable t → IsLeft width height plane → AreLevelBands (transform_of t).counts t.finer (lowest_size width t.depth) (lowest_size height t.depth) t.depth (quantised_bands_of t kind plane)
 level_bands t kind width height plane codes is =
-    subst (λ w. AreLevelBands (transform_of t).counts t.finer (lowest_size w t.depth) (lowest_size height t.depth) t.depth (bands_of t kind plane)) is.across
-    (subst (λ h. AreLevelBands (transform_of t).counts t.finer (lowest_size plane.width t.depth) (lowest_size h t.depth) t.depth (bands_of t kind plane)) is.down
+    subst (λ w. AreLevelBands (transform_of t).counts t.finer (lowest_size w t.depth) (lowest_size height t.depth) t.depth (quantised_bands_of t kind plane)) is.across
+    (subst (λ h. AreLevelBands (transform_of t).counts t.finer (lowest_size plane.width t.depth) (lowest_size h t.depth) t.depth (quantised_bands_of t kind plane)) is.down
     (planes_fit kind (transform_of t) t.finer t.index plane codes.wavelet codes.depth.1 codes.index is.small))
 
 pub residual_fits : (t : Settings) (refs : List Picture) (q : Planned) (p : Picture) (m : Option CodedMotion) → IsAccepted t → AllByRecursion (IsSource t) refs → IsSource t p → IsPlanned q → are_listed refs (header_of q) ≡ true
@@ -122,11 +122,11 @@ unfolding sequence_of
 residual_fits t refs q p m accepted listed source planned found is =
     let codes = codable t accepted in
     let s = sequence_of t in
-    let left : (o : Component) → IsLeft (width_of s o) (height_of s o) (left_of t refs (header_of q) m p o) = λ o. left_fits t refs q p m o accepted listed source planned found is in
-    let bands : Component → List _ = λ o. bands_of t (kind_of m) (left_of t refs (header_of q) m p o) in
-    let y = level_bands t (kind_of m) t.width (picture_height t) (left_of t refs (header_of q) m p component.Y) codes (left component.Y) in
-    let u = level_bands t (kind_of m) (chroma_width s) (chroma_height s) (left_of t refs (header_of q) m p component.U) codes (left component.U) in
-    let v = level_bands t (kind_of m) (chroma_width s) (chroma_height s) (left_of t refs (header_of q) m p component.V) codes (left component.V) in
+    let left : (o : Component) → IsLeft (width_of s o) (height_of s o) (residual_plane t refs (header_of q) m p o) = λ o. left_fits t refs q p m o accepted listed source planned found is in
+    let bands : Component → List _ = λ o. quantised_bands_of t (kind_of m) (residual_plane t refs (header_of q) m p o) in
+    let y = level_bands t (kind_of m) t.width (picture_height t) (residual_plane t refs (header_of q) m p component.Y) codes (left component.Y) in
+    let u = level_bands t (kind_of m) (chroma_width s) (chroma_height s) (residual_plane t refs (header_of q) m p component.U) codes (left component.U) in
+    let v = level_bands t (kind_of m) (chroma_width s) (chroma_height s) (residual_plane t refs (header_of q) m p component.V) codes (left component.V) in
     is_written t (residual_of t refs (header_of q) m p) codes refl
     (bands_fit t t.width (picture_height t) (bands component.Y) codes.depth.0 y) (bands_fit t (chroma_width s) (chroma_height s) (bands component.U) codes.depth.0 u) (bands_fit t (chroma_width s) (chroma_height s) (bands component.V) codes.depth.0 v)
     (bands_writable t t.width (picture_height t) (bands component.Y) codes.depth.0 y) (bands_writable t (chroma_width s) (chroma_height s) (bands component.U) codes.depth.0 u)
@@ -143,7 +143,7 @@ lists_longer : (lists : List (List Decision)) (bits : List Bool) → length bits
 lists_longer [] bits = omega arith
 lists_longer (ds ∷ more) bits = omega (arith, lists_longer more (with_block (flush ds) bits), with_block_length (flush ds) bits)
 
-pub lists_short : (lists : List (List Decision)) (bits : List Bool) → length (with_lists lists bits) < 2 ^ 40 → AreShort lists
+pub lists_short : (lists : List (List Decision)) (bits : List Bool) → length (with_lists lists bits) < 2 ^ 40 → ListsHaveShortBlocks lists
 lists_short [] bits small = tt
 lists_short (ds ∷ more) bits small =
     let here = with_block_length (flush ds) bits in
@@ -187,7 +187,7 @@ pub record Coefficients (code : ℕ) (s : Sequence) (r : Option CodedResidual) (
   pub flag : SpelledBehind (zero_residual code) none old mid
   pub rest : SpelledBehind (residual_unless none s) r mid new
 
-unless_left_out : (code : ℕ) (s : Sequence) (r : CodedResidual) (b : Bool) (old : List Bool) → is_intra code ≡ false → ((start : List Bool) → SpelledBehind (residual s) r start (with_residual s r start))
+unless_left_out : (code : ℕ) (s : Sequence) (r : CodedResidual) (b : Bool) (old : List Bool) → is_intra code ≡ false → ((start : List Bool) → SpelledBehind (residual_fields s) r start (with_residual s r start))
     → Coefficients code s (if b then None else Some r) old (with_coefficients s code (if b then None else Some r) old)
 unless_left_out code s r true old inter written =
     let flagged = old ++ true ∷ [] in
@@ -236,7 +236,7 @@ read_spelled t refs q p m accepted listed source planned found is blocks =
     let head = [] ++ header_bits [] q.code (header_of q) in
     let mid = with_motion t m head in
     let last = coefficients_written t refs q p m (up_to_byte mid) predicts is fits in
-    let bits = with_picture t c [] in
+    let bits = with_coded_picture t c [] in
     let bytes = bytes_of (up_to_byte bits) in
     let first = header_spelled [] head q.code (header_of q) planned.range planned.references planned.retires refl in
     let spelled : SpelledBehind (picture q.code s refs) c [] bits =
@@ -254,7 +254,7 @@ read_with t refs q p m accepted listed source planned found is short =
     let head = [] ++ header_bits [] q.code (header_of q) in
     let mid = with_motion t m head in
     let last = coefficients_written t refs q p m (up_to_byte mid) (predicting t accepted) is fits in
-    let bits = with_picture t c [] in
+    let bits = with_coded_picture t c [] in
     let bytes = bytes_of (up_to_byte bits) in
     let count : length bytes ≡ length (up_to_byte bits) / 8 = length-bytes_in (length (up_to_byte bits) / 8) (up_to_byte bits) in
     let whole : length (up_to_byte bits) ≡ length bits + length (gap bits) = length-append bits (gap bits) in
@@ -285,17 +285,17 @@ jobs_read law t refs j accepted listed source planned found short =
     read_with t refs q p _ accepted listed source planned found (moves_so law t refs q p accepted listed source planned found (is_intra q.code) refl) short
 
 pub residual_small : (t : Settings) (refs : List Picture) (q : Planned) (p : Picture) (m : Option CodedMotion) → IsAccepted t → AllByRecursion (IsSource t) refs → IsSource t p → IsPlanned q → are_listed refs (header_of q) ≡ true
-    → Moves t q m → AreSmall (residual_of t refs (header_of q) m p)
+    → Moves t q m → ResidualIsSmall (residual_of t refs (header_of q) m p)
 unfolding sequence_of
 residual_small t refs q p m accepted listed source planned found is =
     let codes = codable t accepted in
     let s = sequence_of t in
-    let left : (o : Component) → IsLeft (width_of s o) (height_of s o) (left_of t refs (header_of q) m p o) = λ o. left_fits t refs q p m o accepted listed source planned found is in
-    let bands : Component → List _ = λ o. bands_of t (kind_of m) (left_of t refs (header_of q) m p o) in
+    let left : (o : Component) → IsLeft (width_of s o) (height_of s o) (residual_plane t refs (header_of q) m p o) = λ o. left_fits t refs q p m o accepted listed source planned found is in
+    let bands : Component → List _ = λ o. quantised_bands_of t (kind_of m) (residual_plane t refs (header_of q) m p o) in
     record {
-      y = bands_small (transform_of t).counts t.finer (lowest_size t.width t.depth) (lowest_size (picture_height t) t.depth) t.depth (bands component.Y) (level_bands t (kind_of m) t.width (picture_height t) (left_of t refs (header_of q) m p component.Y) codes (left component.Y));
-      u = bands_small (transform_of t).counts t.finer (lowest_size (chroma_width s) t.depth) (lowest_size (chroma_height s) t.depth) t.depth (bands component.U) (level_bands t (kind_of m) (chroma_width s) (chroma_height s) (left_of t refs (header_of q) m p component.U) codes (left component.U));
-      v = bands_small (transform_of t).counts t.finer (lowest_size (chroma_width s) t.depth) (lowest_size (chroma_height s) t.depth) t.depth (bands component.V) (level_bands t (kind_of m) (chroma_width s) (chroma_height s) (left_of t refs (header_of q) m p component.V) codes (left component.V));
+      y = bands_small (transform_of t).counts t.finer (lowest_size t.width t.depth) (lowest_size (picture_height t) t.depth) t.depth (bands component.Y) (level_bands t (kind_of m) t.width (picture_height t) (residual_plane t refs (header_of q) m p component.Y) codes (left component.Y));
+      u = bands_small (transform_of t).counts t.finer (lowest_size (chroma_width s) t.depth) (lowest_size (chroma_height s) t.depth) t.depth (bands component.U) (level_bands t (kind_of m) (chroma_width s) (chroma_height s) (residual_plane t refs (header_of q) m p component.U) codes (left component.U));
+      v = bands_small (transform_of t).counts t.finer (lowest_size (chroma_width s) t.depth) (lowest_size (chroma_height s) t.depth) t.depth (bands component.V) (level_bands t (kind_of m) (chroma_width s) (chroma_height s) (residual_plane t refs (header_of q) m p component.V) codes (left component.V));
     }
 
 pub jobs_small : TablesAreChosen → JobsAreSmall

@@ -11,7 +11,7 @@ use Rattle.dirac_types.specs.declared.settings.Settings.{Settings}
 use Rattle.dirac_types.specs.Settings.{IsAccepted}
 use Rattle.dirac_types.specs.Sizes.{picture_height}
 use Rattle.dirac_common.specs.Samples.{clip}
-use Rattle.dirac_units.specs.Cut.{IsCut, start}
+use Rattle.dirac_units.specs.Cut.{IsCut, first_unit_place}
 use Rattle.dirac_sequence.specs.Written.{sequence_of}
 use Rattle.dirac_picture.specs.Grammar.{chroma_height, chroma_width}
 use Rattle.dirac_content.specs.Raw.{raws}
@@ -21,7 +21,7 @@ use Rattle.dirac_analysis.specs.Fits.{AreSamples}
 use Rattle.dirac_encode_laws.specs.Coded.{IsSource}
 use Rattle.dirac_encode_laws.specs.Encoding.{IsRecovered, IsRecoveredUnder, first_long, is_short}
 use Rattle.dirac_encode_laws.specs.Coding.{AreAtIndexZero, IndexRule, Made, coding_under, jobs_of, own_index, reconstructions_under}
-use Rattle.dirac_encode_laws.specs.Laws.{AreSourcesUnder, GivesIndices, IsWhole, RawPicturesAreRecovered, RawPicturesAreRecoveredUnder, StreamsShowTheirPictures}
+use Rattle.dirac_encode_laws.specs.Laws.{AreSourcesUnder, GivesIndices, IsWholePicture, RawPicturesAreRecovered, RawPicturesAreRecoveredUnder, StreamsShowTheirPictures}
 use Rattle.dirac_encode_laws.specs.Tables.{TablesAreChosen}
 use Rattle.dirac_encode_laws.specs.Stream.{StreamsAreCut, picture_length, stream_under, units_under}
 use Rattle.dirac_encode_laws.proofs.Accepted.{most_bytes, most_pictures}
@@ -64,7 +64,7 @@ source_in t number bytes all =
       v = record { across = refl; down = refl; samples = samples_in (drop (a + b) bytes) (below_drop (a + b) bytes all) };
     }
 
-whole_in : (t : Settings) (number : ℕ) (bytes : List ℕ) → length bytes ≡ raw_length t → IsWhole (picture_from t number bytes)
+whole_in : (t : Settings) (number : ℕ) (bytes : List ℕ) → length bytes ≡ raw_length t → IsWholePicture (picture_from t number bytes)
 whole_in t number bytes len =
     let a = luma_bytes t in
     let b = chroma_bytes t in
@@ -111,7 +111,7 @@ raws_in t (suc count) number bytes all =
     ap₂ (λ (l m : List ℕ). l ++ m) (raw_again t.width (picture_height t) (chroma_width s) (chroma_height s) number (take r bytes) parts.0) (raws_in t count (number + 1) (drop r bytes) parts.1)
     ∙ sym (first_bytes r count bytes)
 
-wholes_in : (t : Settings) (count number : ℕ) (bytes : List ℕ) → count * raw_length t ≤ length bytes → AllByRecursion IsWhole (pictures_in t count number bytes)
+wholes_in : (t : Settings) (count number : ℕ) (bytes : List ℕ) → count * raw_length t ≤ length bytes → AllByRecursion IsWholePicture (pictures_in t count number bytes)
 unfolding pictures_in
 wholes_in t zero number bytes some = tt
 wholes_in t (suc count) number bytes some =
@@ -150,7 +150,7 @@ recovered law cuts plans tables f gives t n bytes accepted some few all is short
     let made = sources_made plans (jobs_read_under (jobs_read tables)) f gives t ps sourced in
     let shows = shown_under law (jobs_read tables) plans f gives t ps sourced in
     record {
-      cut = subst (λ (l : List Picture). IsCut start (stream_under f t l) (units_under f t l) None) (sym is) (cuts t (coding_under f t ps) (each_unit t [] (coding_under f t ps) made.0));
+      cut = subst (λ (l : List Picture). IsCut first_unit_place (stream_under f t l) (units_under f t l) None) (sym is) (cuts t (coding_under f t ps) (each_unit t [] (coding_under f t ps) made.0));
       shows = subst (λ (l : List Picture). (o : Outcome) × IsShown (stream_under f t l) o × (o.shown ≡ reconstructions_under f t l) × (o.end ≡ None)) (sym is) shows;
       lossless = λ none. subst (λ (l : List Picture). reconstructions_under f t l ≡ l) (sym is) (kept_under plans tables f gives t ps sourced (numbered_in t n 0 bytes) (wholes_in t n 0 bytes some) (subst (λ (l : List Picture). AreAtIndexZero f t [] (jobs_of t l)) is none));
       raw = subst (λ (l : List Picture). raws l ≡ take (length l * raw_length t) bytes) (sym is) (raws_in t n 0 bytes all ∙ ap (λ k. take (k * raw_length t) bytes) (sym count));

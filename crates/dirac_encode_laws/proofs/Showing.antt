@@ -9,7 +9,7 @@ use Rattle.dirac_common.specs.declared.picture.Picture.{Picture}
 use Rattle.dirac_types.specs.declared.settings.Settings.{Settings}
 use Rattle.dirac_types.specs.Settings.{IsAccepted}
 use Rattle.dirac_units.specs.declared.unit_place.UnitPlace.{UnitPlace}
-use Rattle.dirac_units.specs.Cut.{UnitText, IsCut, after, start}
+use Rattle.dirac_units.specs.Cut.{UnitText, IsCut, after, first_unit_place}
 use Rattle.dirac_units.specs.Info.{IsLawful}
 use Rattle.dirac_units.specs.Writing.{info_bytes, IsReadAsWritten}
 use Rattle.dirac_sequence_header.specs.Grammar.{sequence_read}
@@ -17,14 +17,14 @@ use Rattle.dirac_sequence.specs.Written.{sequence_of, sequence_payload}
 use Rattle.dirac_picture.specs.declared.coded.CodedPicture.{CodedPicture}
 use Rattle.dirac_picture.specs.Grammar.{is_intra, picture_read}
 use Rattle.dirac_refs.specs.declared.waiting.Waiting.{Waiting}
-use Rattle.dirac_refs.specs.Delivery.{delivered, flush, flushed, key_of}
+use Rattle.dirac_refs.specs.Delivery.{delivered, in_delivery_order, flushed, key_of}
 use Rattle.dirac_refs.specs.References.{committed}
 use Rattle.dirac_content.specs.declared.opened.Opened.{Opened}
 use Rattle.dirac_content.specs.Content.{rebuilt}
-use Rattle.dirac_content.specs.StreamState.{StreamState, StreamStep, as_reference, begun, content, first_or, header_step, is_same, made, unit_step, opening, passed, picture_step, shows, staying}
+use Rattle.dirac_content.specs.StreamState.{StreamState, StreamStep, as_reference, stream_begun, content, first_or, header_step, is_same, shown_or_refused, unit_step, opening, passed, picture_step, shows, staying}
 use Rattle.dirac_content.specs.Sequences.{flushed_behind}
 use Rattle.dirac_content.specs.Shown.{Outcome, follows, outcome, with_front}
-use Rattle.dirac_encode_laws.specs.Coding.{Made, pushed, refs_after, waiting_of}
+use Rattle.dirac_encode_laws.specs.Coding.{Made, keyed_reconstructions, refs_after, waiting_of}
 use Rattle.dirac_encode_laws.specs.Laws.{AreMade, Begins, IsMade, StreamsShowTheirPictures}
 use Rattle.dirac_encode_laws.specs.Stream.{IsUnit, StreamsAreCut, end_info, end_text, end_unit, header_before, header_length, header_text, header_unit, info_for, last_length, picture_length, picture_text, picture_unit, unit, units_from, units_in, units_of}
 use Rattle.dirac_encode_laws.proofs.Cutting.{nothing_left, one_cut, unit_front_is}
@@ -93,8 +93,8 @@ pub streams_cut : IsReadAsWritten → StreamsAreCut
 unfolding header_text units_from units_of
 streams_cut written t [] all =
     let info = info_for 0x00 0 (sequence_payload t) in
-    header_cut written t 0 start (end_unit (header_length t)) (end_text (header_length t) ∷ []) (omega arith) (end_cut written (header_length t) (after start info) (header_short t))
-streams_cut written t (m ∷ ms) all = cut_from written t (m ∷ ms) 0 start (omega arith) all
+    header_cut written t 0 first_unit_place (end_unit (header_length t)) (end_text (header_length t) ∷ []) (omega arith) (end_cut written (header_length t) (after first_unit_place info) (header_short t))
+streams_cut written t (m ∷ ms) all = cut_from written t (m ∷ ms) 0 first_unit_place (omega arith) all
 
 -- ---- their content
 
@@ -120,9 +120,9 @@ repeats t state e =
     let answer : Bool → Result StreamStep Refusal = λ same. if same then Ok (staying state) else Err (record { at = 0; cause = SequenceChanged }) in
     ap (λ o. header_step state o (sequence_payload t)) e ∙ ap answer (same_header (sequence_payload t))
 
-opens : (t : Settings) → sequence_read (sequence_payload t) ≡ Ok (sequence_of t) → unit_step begun 0x00 (sequence_payload t) ≡ Ok (staying (record begun { opened = Some (opened_by t); first = None }))
+opens : (t : Settings) → sequence_read (sequence_payload t) ≡ Ok (sequence_of t) → unit_step stream_begun 0x00 (sequence_payload t) ≡ Ok (staying (record stream_begun { opened = Some (opened_by t); first = None }))
 unfolding unit_step opened_by
-opens t read = ap (opening begun (sequence_payload t)) read
+opens t read = ap (opening stream_begun (sequence_payload t)) read
 
 adds : (t : Settings) (code : ℕ) (payload : List ℕ) (coded : CodedPicture) (state : StreamState) → state.opened ≡ Some (opened_by t) → IsPictureCode code
     → picture_read code (sequence_of t) state.list payload ≡ Ok coded → unit_step state code payload ≡ Ok (shows state coded (rebuilt (sequence_of t) state.list coded))
@@ -130,7 +130,7 @@ unfolding unit_step opened_by
 adds t code payload coded state e is read =
     ap (λ (b : Bool). if b then content state code payload else Ok (passed state code)) is.read
     ∙ ap (λ (b : Bool). if b then header_step state state.opened payload else picture_step state state.opened code payload) is.other
-    ∙ ap (λ o. picture_step state o code payload) e ∙ ap (made state (opened_by t)) read
+    ∙ ap (λ o. picture_step state o code payload) e ∙ ap (shown_or_refused state (opened_by t)) read
 
 pub outcome_more : (state : StreamState) (unit_place : UnitPlace) (unit : UnitText) (units : List UnitText) (m : StreamStep) → unit_step state unit.info.code unit.payload ≡ Ok m
     → outcome state unit_place (unit ∷ units) None ≡ with_front m.gone (outcome m.state (after unit_place unit.info) units None)
@@ -192,20 +192,20 @@ shows_one t m refs waiting rest previous unit_place state units g first is more 
     }
 
 shows_from : (t : Settings) (ms : List Made) (refs : List Picture) (waiting : List Waiting) (previous : ℕ) (unit_place : UnitPlace) (state : StreamState) → Going t refs waiting state → state.first ≡ Some 0 → AreMade t refs ms
-    → Shows (outcome state unit_place (units_from t previous ms) None) (flushed_behind waiting (pushed ms))
+    → Shows (outcome state unit_place (units_from t previous ms) None) (flushed_behind waiting (keyed_reconstructions ms))
 unfolding units_from
 shows_from t [] refs waiting previous unit_place state g first all = shows_end previous waiting unit_place state g.waits
 shows_from t (m ∷ ms) refs waiting previous unit_place state g first all =
     let units = units_from t (picture_length m) ms in
     let now = delivered (waiting ++ waiting_of m ∷ []) in
-    shows_header t previous (is_intra m.coded.code) unit_place state (picture_text t m previous ∷ units) (flushed_behind waiting (pushed (m ∷ ms))) g.opened
-    (λ next. shows_one t m refs waiting (pushed ms) previous next state units g (ap (λ o. first_or o m.shown.number) first) all.0
+    shows_header t previous (is_intra m.coded.code) unit_place state (picture_text t m previous ∷ units) (flushed_behind waiting (keyed_reconstructions (m ∷ ms))) g.opened
+    (λ next. shows_one t m refs waiting (keyed_reconstructions ms) previous next state units g (ap (λ o. first_or o m.shown.number) first) all.0
     (λ next' later g' first'. shows_from t ms (refs_after refs m) now.waiting (picture_length m) next' later g' first' all.1))
 
 -- ---- the whole stream
 
 first_course : Settings → StreamState
-first_course t = record begun { opened = Some (opened_by t); first = None }
+first_course t = record stream_begun { opened = Some (opened_by t); first = None }
 
 first_going : (t : Settings) → Going t [] [] (first_course t)
 unfolding first_course
@@ -217,14 +217,14 @@ each_unit t refs (m ∷ ms) all = (all.0.fits, each_unit t (refs_after refs m) m
 
 -- behind the first sequence header
 shows_all : (t : Settings) (ms : List Made) (units : List UnitText) → sequence_read (sequence_payload t) ≡ Ok (sequence_of t)
-    → ((next : UnitPlace) → Shows (outcome (first_course t) next units None) (flush (pushed ms))) → Shows (outcome begun start (header_text t 0 ∷ units) None) (flush (pushed ms))
+    → ((next : UnitPlace) → Shows (outcome (first_course t) next units None) (in_delivery_order (keyed_reconstructions ms))) → Shows (outcome stream_begun first_unit_place (header_text t 0 ∷ units) None) (in_delivery_order (keyed_reconstructions ms))
 unfolding first_course header_text
 shows_all t ms units read more =
-    let rest = more (after start (header_text t 0).info) in
-    let step = outcome_more begun start (header_text t 0) units (staying (first_course t)) (opens t read) in
+    let rest = more (after first_unit_place (header_text t 0).info) in
+    let step = outcome_more stream_begun first_unit_place (header_text t 0) units (staying (first_course t)) (opens t read) in
     record { shown = ap (λ (o : Outcome). o.shown) step ∙ rest.shown; none = ap (λ (o : Outcome). o.end) step ∙ rest.none }
 
-shows_stream : (t : Settings) (ms : List Made) → IsAccepted t → AreMade t [] ms → Begins ms → Shows (outcome begun start (units_in t ms) None) (flush (pushed ms))
+shows_stream : (t : Settings) (ms : List Made) → IsAccepted t → AreMade t [] ms → Begins ms → Shows (outcome stream_begun first_unit_place (units_in t ms) None) (in_delivery_order (keyed_reconstructions ms))
 unfolding units_from first_course
 shows_stream t [] accepted all begins =
     shows_all t [] (end_text (header_length t) ∷ []) (header_read t accepted) (λ next. shows_end (header_length t) [] next (first_course t) refl)
@@ -233,13 +233,13 @@ shows_stream t (m ∷ ms) accepted all begins =
     let now = delivered ([] ++ waiting_of m ∷ []) in
     let first : first_or None m.shown.number ≡ 0 = ap (λ (p : Picture). p.number) all.0.shows ∙ begins.1 in
     let told : Bool → List UnitText = λ b. (if b then header_text t 0 ∷ [] else []) ++ picture_text t m 0 ∷ units in
-    subst (λ (us : List UnitText). Shows (outcome begun start us None) (flush (pushed (m ∷ ms)))) (ap told (sym begins.0))
+    subst (λ (us : List UnitText). Shows (outcome stream_begun first_unit_place us None) (in_delivery_order (keyed_reconstructions (m ∷ ms)))) (ap told (sym begins.0))
     (shows_all t (m ∷ ms) (picture_text t m 0 ∷ units) (header_read t accepted)
-    (λ next. shows_one t m [] [] (pushed ms) 0 next (first_course t) units (first_going t) first all.0
+    (λ next. shows_one t m [] [] (keyed_reconstructions ms) 0 next (first_course t) units (first_going t) first all.0
     (λ next' later g' first'. shows_from t ms (refs_after [] m) now.waiting (picture_length m) next' later g' first' all.1)))
 
 pub streams_shown : IsReadAsWritten → StreamsShowTheirPictures
 streams_shown written t ms accepted all begins =
     let units = units_in t ms in
     let is = shows_stream t ms accepted all begins in
-    (outcome begun start units None, record { units = units; end = None; cut = streams_cut written t ms (each_unit t [] ms all); same = refl }, is.shown, is.none)
+    (outcome stream_begun first_unit_place units None, record { units = units; end = None; cut = streams_cut written t ms (each_unit t [] ms all); same = refl }, is.shown, is.none)

@@ -19,7 +19,7 @@ use Rattle.dirac_common.specs.declared.formats.Component.TheVariants as componen
 use Rattle.dirac_picture.specs.declared.coded.CodedMotion.{CodedMotion}
 use Rattle.dirac_picture.specs.declared.coded.CodedPicture.{CodedPicture}
 use Rattle.dirac_picture.specs.declared.coded.CodedResidual.{CodedResidual}
-use Rattle.dirac_refs.specs.Delivery.{flush}
+use Rattle.dirac_refs.specs.Delivery.{in_delivery_order}
 use Rattle.dirac_refs.specs.References.{appended, committed, retire, without}
 use Rattle.dirac_synthesis.specs.Residual.{clipped, with_prediction}
 use Rattle.dirac_analysis.specs.Fits.{AreSamples}
@@ -27,8 +27,8 @@ use Rattle.dirac_content.specs.Content.{height_of, named, predicted_among, rebui
 use Rattle.dirac_content.specs.StreamState.{as_reference}
 use Rattle.dirac_header.specs.Codes.{is_reference}
 use Rattle.dirac_plan.specs.declared.planned.Planned.{Planned}
-use Rattle.dirac_encode_laws.specs.Coded.{IsPlane, IsSource}
-use Rattle.dirac_encode_laws.specs.Coding.{IndexRule, Job, Made, blank, coded_under, coding_under, job_of, made_under, own_index, pushed, reconstructions_under, refs_after, shown_of, waiting_of}
+use Rattle.dirac_encode_laws.specs.Coded.{IsSourcePlane, IsSource}
+use Rattle.dirac_encode_laws.specs.Coding.{IndexRule, Job, Made, blank, coded_under, coding_under, job_of, made_under, own_index, keyed_reconstructions, reconstructions_under, refs_after, shown_of, waiting_of}
 use Rattle.dirac_encode_laws.specs.Laws.{AreMade, AreSourcesUnder, Begins, GivesIndices, IsMade, JobsAreRead, JobsAreReadUnder, SourcesShowReconstructions, SourcesShowReconstructionsUnder, StreamsShowTheirPictures}
 use Rattle.dirac_motion.specs.Chosen.{at_index}
 use Rattle.dirac_picture.specs.Grammar.{picture_read}
@@ -39,7 +39,7 @@ use Rattle.dirac_plan.specs.Plan.{plan}
 use Rattle.dirac_plan_laws.specs.Headers.{IsPlanned}
 use Rattle.dirac_plan_laws.specs.Order.{as_waiting}
 use Rattle.dirac_plan_laws.specs.Plans.{BeginsPlan, PlansCanBeCoded}
-use Rattle.dirac_plan_laws.specs.References.{AreFound, ArePlanned}
+use Rattle.dirac_plan_laws.specs.References.{ReferencesAreFound, ArePlanned}
 
 -- ---- what is rebuilt is a picture of these settings
 
@@ -57,15 +57,15 @@ left_size : (s : Sequence) (kind : Kind) (r : Option CodedResidual) (p : Compone
 left_size s kind None p = (refl, refl)
 left_size s kind (Some r) p = (refl, refl)
 
-intra_rebuilt : (s : Sequence) (r : Option CodedResidual) (p : Component) → IsPlane (width_of s p) (height_of s p) (clipped (residual_among s Intra p r))
+intra_rebuilt : (s : Sequence) (r : Option CodedResidual) (p : Component) → IsSourcePlane (width_of s p) (height_of s p) (clipped (residual_among s Intra p r))
 intra_rebuilt s r p = let size = left_size s Intra r p in record { across = size.0; down = size.1; samples = clipped_samples (residual_among s Intra p r) }
 
-inter_rebuilt : (s : Sequence) (r : Option CodedResidual) (predicted : List ℤ) (p : Component) → IsPlane (width_of s p) (height_of s p) (clipped (with_prediction (residual_among s Inter p r) predicted))
+inter_rebuilt : (s : Sequence) (r : Option CodedResidual) (predicted : List ℤ) (p : Component) → IsSourcePlane (width_of s p) (height_of s p) (clipped (with_prediction (residual_among s Inter p r) predicted))
 inter_rebuilt s r predicted p =
     let size = left_size s Inter r p in
     record { across = size.0; down = size.1; samples = clipped_samples (with_prediction (residual_among s Inter p r) predicted) }
 
-plane_rebuilt : (s : Sequence) (refs : List Picture) (head : PictureHeader) (m : Option CodedMotion) (r : Option CodedResidual) (p : Component) → IsPlane (width_of s p) (height_of s p) (samples_from s refs head m r p)
+plane_rebuilt : (s : Sequence) (refs : List Picture) (head : PictureHeader) (m : Option CodedMotion) (r : Option CodedResidual) (p : Component) → IsSourcePlane (width_of s p) (height_of s p) (samples_from s refs head m r p)
 plane_rebuilt s refs head None r p = intra_rebuilt s r p
 plane_rebuilt s refs head (Some m) r p = inter_rebuilt s r (predicted_among s m (named refs head.ref1) (named refs head.ref2) p) p
 
@@ -156,7 +156,7 @@ are_planned f t pictures refs (q ∷ qs) = ap (λ ns. q.number ∷ ns) (are_plan
 
 all_made : JobsAreReadUnder → (f : IndexRule) → GivesIndices f → (t : Settings) (pictures refs : List Picture) (qs : List Planned) → IsAccepted t → AllByRecursion (IsSource t) pictures → AllByRecursion (IsSource t) refs
     → AllByRecursion (λ (q : Planned). q.number < length pictures) qs → AllByRecursion IsPlanned qs
-    → AreFound refs qs (map shown_of (coded_under f t refs (map (job_of pictures) qs)))
+    → ReferencesAreFound refs qs (map shown_of (coded_under f t refs (map (job_of pictures) qs)))
     → AllByRecursion (λ m. picture_length m < 2 ^ 32) (coded_under f t refs (map (job_of pictures) qs))
     → AreMade t refs (coded_under f t refs (map (job_of pictures) qs))
 unfolding coded_under
@@ -174,7 +174,7 @@ unfolding coded_under
 begins f t pictures [] is = tt
 begins f t pictures (q ∷ qs) is = (is.0, is.1)
 
-pub pushed_shown : (ms : List Made) → pushed ms ≡ map as_waiting (map shown_of ms)
+pub pushed_shown : (ms : List Made) → keyed_reconstructions ms ≡ map as_waiting (map shown_of ms)
 pushed_shown [] = refl
 pushed_shown (m ∷ ms) = ap (λ ws. waiting_of m ∷ ws) (pushed_shown ms)
 
@@ -189,11 +189,11 @@ sources_made plans law f gives t pictures is =
     )
 
 -- they leave by rising number
-pub sources_leave : PlansCanBeCoded → (f : IndexRule) (t : Settings) (pictures : List Picture) → IsAccepted t → length pictures < 2 ^ 31 → flush (pushed (coding_under f t pictures)) ≡ reconstructions_under f t pictures
+pub sources_leave : PlansCanBeCoded → (f : IndexRule) (t : Settings) (pictures : List Picture) → IsAccepted t → length pictures < 2 ^ 31 → in_delivery_order (keyed_reconstructions (coding_under f t pictures)) ≡ reconstructions_under f t pictures
 sources_leave plans f t pictures accepted few =
     let n = length pictures in
     let ms = coding_under f t pictures in
-    ap flush (pushed_shown ms) ∙ (plans t n accepted (omega (arith, few))).order (map shown_of ms) (are_planned f t pictures [] (plan n t))
+    ap in_delivery_order (pushed_shown ms) ∙ (plans t n accepted (omega (arith, few))).order (map shown_of ms) (are_planned f t pictures [] (plan n t))
 
 pub shown_under : StreamsShowTheirPictures → JobsAreRead → PlansCanBeCoded → SourcesShowReconstructionsUnder
 shown_under shown reads plans f gives t pictures is =

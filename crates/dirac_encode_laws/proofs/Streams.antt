@@ -16,9 +16,9 @@ use Rattle.dirac_plan.specs.declared.planned.Planned.{Planned}
 use Rattle.dirac_encode_laws.specs.declared.answers.Encoded.{Encoded}
 use Rattle.dirac_encode_laws.specs.declared.answers.Encoded.TheVariants as encoded
 use Rattle.dirac_encode_laws.specs.Coding.{IndexRule, Job, Made, blank, coded_under, job_of, made_under, refs_after}
-use Rattle.dirac_encode_laws.specs.Encoding.{AnswersEncode, Encoding, WritesAll, WritesFront, encoding_by, encoding_under, ending, first_long, is_short}
-use Rattle.dirac_encode_laws.specs.Standing.{Leave, Stands, coding_in, jobs_in, pushed_now}
-use Rattle.dirac_encode_laws.specs.Steps.{BreaksOff, EndsEarly, IsCoded, IsEnded, IsTooLong, Progress, last_units, leaving, picture_units}
+use Rattle.dirac_encode_laws.specs.Encoding.{AnswersEncodedStream, Encoding, WritesAll, WritesFront, encoding_by, encoding_under, ending, first_long, is_short}
+use Rattle.dirac_encode_laws.specs.Standing.{Leave, CodingStands, coding_in, jobs_in, pushed_now}
+use Rattle.dirac_encode_laws.specs.Steps.{PictureBreaksOff, EndsEarly, IsCoded, IsEnded, IsTooLong, Progress, last_units, leaving_with, picture_units}
 use Rattle.dirac_encode_laws.specs.Stream.{header_before, last_length, units_of}
 use Rattle.dirac_encode_laws.proofs.Encodings.{ahead, ahead_next, all_more, closing_is, coded_all, coded_more, ends_long, ends_whole, gone_more, last_parts, units_more, waiting_more}
 use Rattle.dirac_encode_laws.proofs.Sources.{length-pictures_in, picture_more, pictures_parts, whole_more}
@@ -46,7 +46,7 @@ pub record Reads (t : Settings) (bytes : List ℕ) (accepted : ℕ) (held : Opti
   pub some : accepted * raw_length t ≤ length bytes
 
 -- nothing is coded yet
-pub stands_first : (f : IndexRule) (t : Settings) (bytes : List ℕ) (p : Progress) (out side : Option (List ℕ)) → p.count ≡ 0 → p.previous ≡ 0 → p.refs ≡ [] → p.delivery ≡ [] → Stands f t bytes p out out side side
+pub stands_first : (f : IndexRule) (t : Settings) (bytes : List ℕ) (p : Progress) (out side : Option (List ℕ)) → p.count ≡ 0 → p.previous ≡ 0 → p.refs ≡ [] → p.delivery ≡ [] → CodingStands f t bytes p out out side side
 unfolding units_of
 stands_first f t bytes p out side count previous refs delivery = record {
   done = [];
@@ -74,8 +74,8 @@ job_is t bytes n q source waiting next same among =
     get_map (r ∷ qs) (suc n) q e = get_map qs n q e
 
 -- one picture more is coded
-pub stands_more : (f : IndexRule) (t : Settings) (bytes : List ℕ) (old new : Progress) (j : Job) (out0 out out' side0 side side' : Option (List ℕ)) → Stands f t bytes old out0 out side0 side → slice_get (jobs_in t bytes) old.count ≡ Some j
-    → IsCoded t (made_under f t old.refs j) old new out out' side side' → Stands f t bytes new out0 out' side0 side'
+pub stands_more : (f : IndexRule) (t : Settings) (bytes : List ℕ) (old new : Progress) (j : Job) (out0 out out' side0 side side' : Option (List ℕ)) → CodingStands f t bytes old out0 out side0 side → slice_get (jobs_in t bytes) old.count ≡ Some j
+    → IsCoded t (made_under f t old.refs j) old new out out' side side' → CodingStands f t bytes new out0 out' side0 side'
 stands_more f t bytes old new j out0 out out' side0 side side' so there coded =
     let m = made_under f t old.refs j in
     let ms = so.done in
@@ -85,14 +85,14 @@ stands_more f t bytes old new j out0 out out' side0 side side' so there coded =
       all = more ∙ ap₂ (λ (r : List Picture) (n : ℕ). (ms ++ m ∷ []) ++ coded_under f t r (drop n (jobs_in t bytes))) (sym coded.refs) (sym coded.count);
       count = omega (arith, length-append ms (m ∷ []), so.count, coded.count);
       previous = coded.previous ∙ sym (last_parts 0 ms (m ∷ []));
-      waiting = coded.waiting ∙ ap (λ ws. (leaving m ws).waiting) so.waiting ∙ sym (waiting_more ms m);
+      waiting = coded.waiting ∙ ap (λ ws. (leaving_with m ws).waiting) so.waiting ∙ sym (waiting_more ms m);
       written =
           subst (λ (l : List ℕ). Appends out0 out' l) (sym (units_more t 0 ms m ∙ ap (λ k. units_of t 0 ms ++ picture_units t k m) (sym so.previous)))
           (Appends-trans out0 out out' (units_of t 0 ms) (picture_units t old.previous m) so.written coded.written);
       delivered =
           subst (λ (l : List ℕ). Appends side0 side' l)
-          (sym (ap raws (gone_more ms m) ∙ flat_map-append raw (pushed_now ms).gone (leaving m (pushed_now ms).waiting).gone ∙ ap (λ ws. raws (pushed_now ms).gone ++ raws (leaving m ws).gone) (sym so.waiting)))
-          (Appends-trans side0 side side' (raws (pushed_now ms).gone) (raws (leaving m old.delivery).gone) so.delivered coded.delivered);
+          (sym (ap raws (gone_more ms m) ∙ flat_map-append raw (pushed_now ms).gone (leaving_with m (pushed_now ms).waiting).gone ∙ ap (λ ws. raws (pushed_now ms).gone ++ raws (leaving_with m ws).gone) (sym so.waiting)))
+          (Appends-trans side0 side side' (raws (pushed_now ms).gone) (raws (leaving_with m old.delivery).gone) so.delivered coded.delivered);
       short = all_more (λ x. is_short t x ≡ true) ms m so.short coded.short;
     }
 
@@ -103,7 +103,7 @@ unfolding encoding_under
 encoding_parts f t bytes all is = ap (λ l. encoding_by t (ending t bytes) l (first_long t l)) is
 
 -- at a fault between pictures
-pub stops_between : (f : IndexRule) (t : Settings) (bytes : List ℕ) (p : Progress) (out0 out side0 side : Option (List ℕ)) → Leave (coding_in f t bytes) → Stands f t bytes p out0 out side0 side → WritesFront (encoding_under f t bytes) out0 out side0 side
+pub stops_between : (f : IndexRule) (t : Settings) (bytes : List ℕ) (p : Progress) (out0 out side0 side : Option (List ℕ)) → Leave (coding_in f t bytes) → CodingStands f t bytes p out0 out side0 side → WritesFront (encoding_under f t bytes) out0 out side0 side
 stops_between f t bytes p out0 out side0 side leave so =
     let ms = so.done in
     let rest = coded_under f t p.refs (drop p.count (jobs_in t bytes)) in
@@ -125,8 +125,8 @@ follows f t bytes p j ms all there =
     record { rest = rest; all = more ∙ append_assoc ms (m ∷ []) rest; behind = more }
 
 -- a fault in a picture
-pub breaks_off : (f : IndexRule) (t : Settings) (bytes : List ℕ) (p : Progress) (j : Job) (out0 out out' side0 side side' : Option (List ℕ)) → Leave (coding_in f t bytes) → Stands f t bytes p out0 out side0 side → slice_get (jobs_in t bytes) p.count ≡ Some j
-    → BreaksOff t (made_under f t p.refs j) p out out' side side' → WritesFront (encoding_under f t bytes) out0 out' side0 side'
+pub breaks_off : (f : IndexRule) (t : Settings) (bytes : List ℕ) (p : Progress) (j : Job) (out0 out out' side0 side side' : Option (List ℕ)) → Leave (coding_in f t bytes) → CodingStands f t bytes p out0 out side0 side → slice_get (jobs_in t bytes) p.count ≡ Some j
+    → PictureBreaksOff t (made_under f t p.refs j) p out out' side side' → WritesFront (encoding_under f t bytes) out0 out' side0 side'
 breaks_off f t bytes p j out0 out out' side0 side side' leave so there (inl early) =
     let ms = so.done in
     let m = made_under f t p.refs j in
@@ -145,23 +145,23 @@ breaks_off f t bytes p j out0 out out' side0 side side' leave so there (inr late
     let all = ms ++ m ∷ [] in
     let a = ahead t (ending t bytes) all next.rest (all_more (λ x. is_short t x ≡ true) ms m so.short late.0) (subst Leave next.behind leave) in
     let units : units_of t 0 all ≡ units_of t 0 ms ++ picture_units t p.previous m = units_more t 0 ms m ∙ ap (λ k. units_of t 0 ms ++ picture_units t k m) (sym so.previous) in
-    let gone : (pushed_now all).gone ≡ (pushed_now ms).gone ++ (leaving m p.delivery).gone = gone_more ms m ∙ ap (λ ws. (pushed_now ms).gone ++ (leaving m ws).gone) (sym so.waiting) in
-    let shown = ap raws (a.shown_is ∙ ap (λ l. l ++ a.later) gone) ∙ raws_parts (pushed_now ms).gone (leaving m p.delivery).gone a.later in
+    let gone : (pushed_now all).gone ≡ (pushed_now ms).gone ++ (leaving_with m p.delivery).gone = gone_more ms m ∙ ap (λ ws. (pushed_now ms).gone ++ (leaving_with m ws).gone) (sym so.waiting) in
+    let shown = ap raws (a.shown_is ∙ ap (λ l. l ++ a.later) gone) ∙ raws_parts (pushed_now ms).gone (leaving_with m p.delivery).gone a.later in
     subst (λ (e : Encoding). WritesFront e out0 out' side0 side') (sym (encoding_parts f t bytes (all ++ next.rest) next.behind)) (
       front_behind out0 out out' (units_of t 0 ms) (picture_units t p.previous m) a.rest _ (a.stream_is ∙ ap (λ l. l ++ a.rest) units) so.written late.1,
-      front_behind side0 side side' (raws (pushed_now ms).gone) (raws (leaving m p.delivery).gone) (raws a.later) _ shown so.delivered late.2,
+      front_behind side0 side side' (raws (pushed_now ms).gone) (raws (leaving_with m p.delivery).gone) (raws a.later) _ shown so.delivered late.2,
     )
 
 -- the unit is too long
-pub too_long : (f : IndexRule) (t : Settings) (bytes : List ℕ) (p : Progress) (j : Job) (number : ℕ) (out0 out out' side0 side side' : Option (List ℕ)) → Stands f t bytes p out0 out side0 side → slice_get (jobs_in t bytes) p.count ≡ Some j
-    → IsTooLong t (made_under f t p.refs j) number p out out' side side' → AnswersEncode (encoded.UnitTooLong number) (encoding_under f t bytes) out0 out' side0 side'
+pub too_long : (f : IndexRule) (t : Settings) (bytes : List ℕ) (p : Progress) (j : Job) (number : ℕ) (out0 out out' side0 side side' : Option (List ℕ)) → CodingStands f t bytes p out0 out side0 side → slice_get (jobs_in t bytes) p.count ≡ Some j
+    → IsTooLong t (made_under f t p.refs j) number p out out' side side' → AnswersEncodedStream (encoded.UnitTooLong number) (encoding_under f t bytes) out0 out' side0 side'
 too_long f t bytes p j number out0 out out' side0 side side' so there is =
     let ms = so.done in
     let m = made_under f t p.refs j in
     let next = follows f t bytes p j ms so.all there in
     let same = encoding_parts f t bytes (ms ++ m ∷ next.rest) next.all ∙ ends_long t (ending t bytes) ms m next.rest so.short is.long in
     let header : header_before t m (last_length 0 ms) ≡ header_before t m p.previous = ap (header_before t m) (sym so.previous) in
-    subst (λ (e : Encoding). AnswersEncode (encoded.UnitTooLong number) e out0 out' side0 side') (sym same) (
+    subst (λ (e : Encoding). AnswersEncodedStream (encoded.UnitTooLong number) e out0 out' side0 side') (sym same) (
       ap encoded.UnitTooLong is.same,
       (
         subst (λ (l : List ℕ). Appends out0 out' (units_of t 0 ms ++ l)) (sym header) (Appends-trans out0 out out' (units_of t 0 ms) (header_before t m p.previous) so.written is.written),
@@ -172,7 +172,7 @@ too_long f t bytes p j number out0 out out' side0 side side' so there is =
 -- ---- the end
 
 -- all are coded
-closing_so : (f : IndexRule) (t : Settings) (bytes : List ℕ) (p : Progress) (answer : Encoded) (out0 out side0 side : Option (List ℕ)) → Leave (coding_in f t bytes) → (so : Stands f t bytes p out0 out side0 side) → length (jobs_in t bytes) ≤ p.count → ending t bytes ≡ answer
+closing_so : (f : IndexRule) (t : Settings) (bytes : List ℕ) (p : Progress) (answer : Encoded) (out0 out side0 side : Option (List ℕ)) → Leave (coding_in f t bytes) → (so : CodingStands f t bytes p out0 out side0 side) → length (jobs_in t bytes) ≤ p.count → ending t bytes ≡ answer
     → encoding_under f t bytes ≡ record { answer = answer; stream = units_of t 0 so.done ++ last_units t p.count p.previous; shown = (pushed_now so.done).gone ++ flushed p.delivery }
 closing_so f t bytes p answer out0 out side0 side leave so few answers =
     let ms = so.done in
@@ -185,7 +185,7 @@ closing_so f t bytes p answer out0 out side0 side leave so few answers =
     ∙ ap (λ k. make answer p.count k (pushed_now ms).waiting) (sym so.previous)
     ∙ ap (make answer p.count p.previous) (sym so.waiting)
 
-pub ended_all : (f : IndexRule) (t : Settings) (bytes : List ℕ) (p : Progress) (answer : Encoded) (out0 out out' side0 side side' : Option (List ℕ)) → Leave (coding_in f t bytes) → Stands f t bytes p out0 out side0 side → length (jobs_in t bytes) ≤ p.count → ending t bytes ≡ answer
+pub ended_all : (f : IndexRule) (t : Settings) (bytes : List ℕ) (p : Progress) (answer : Encoded) (out0 out out' side0 side side' : Option (List ℕ)) → Leave (coding_in f t bytes) → CodingStands f t bytes p out0 out side0 side → length (jobs_in t bytes) ≤ p.count → ending t bytes ≡ answer
     → IsEnded t p out out' side side' → ((encoding_under f t bytes).answer ≡ answer) × WritesAll (encoding_under f t bytes) out0 out' side0 side'
 ended_all f t bytes p answer out0 out out' side0 side side' leave so few answers ended =
     let ms = so.done in
@@ -199,7 +199,7 @@ ended_all f t bytes p answer out0 out out' side0 side side' leave so few answers
       ),
     )
 
-pub ended_early : (f : IndexRule) (t : Settings) (bytes : List ℕ) (p : Progress) (answer : Encoded) (out0 out out' side0 side side' : Option (List ℕ)) → Leave (coding_in f t bytes) → Stands f t bytes p out0 out side0 side → length (jobs_in t bytes) ≤ p.count → ending t bytes ≡ answer
+pub ended_early : (f : IndexRule) (t : Settings) (bytes : List ℕ) (p : Progress) (answer : Encoded) (out0 out out' side0 side side' : Option (List ℕ)) → Leave (coding_in f t bytes) → CodingStands f t bytes p out0 out side0 side → length (jobs_in t bytes) ≤ p.count → ending t bytes ≡ answer
     → EndsEarly t p out out' side side' → WritesFront (encoding_under f t bytes) out0 out' side0 side'
 ended_early f t bytes p answer out0 out out' side0 side side' leave so few answers early =
     let ms = so.done in

@@ -23,7 +23,7 @@ HaveSmall bands =
     (n : ℕ) (b : CodedBand) → slice_get bands n ≡ Some b → All (λ v. unsigned_abs v < 2 ^ 38) b.table.values
 
 -- those of all three planes
-pub record AreSmall (r : CodedResidual) : Type 0 where
+pub record ResidualIsSmall (r : CodedResidual) : Type 0 where
   pub y : HaveSmall r.y
   pub u : HaveSmall r.u
   pub v : HaveSmall r.v

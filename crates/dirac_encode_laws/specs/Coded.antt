@@ -23,7 +23,7 @@ use Rattle.dirac_picture.specs.Grammar.{is_intra}
 pub use Rattle.dirac_encode_laws.specs.Payloads.{motion_with}
 use Rattle.dirac_analysis.specs.Analysis.{plane_bands}
 use Rattle.dirac_content.specs.Content.{named, plane_of, predicted_among}
-pub use Rattle.dirac_sources.specs.Sources.{IsPlane, IsSource}
+pub use Rattle.dirac_sources.specs.Sources.{IsSourcePlane, IsSource}
 pub use Rattle.dirac_synthesis.specs.Zeros.{are_zero_bands}
 use Rattle.dirac_plan.specs.declared.planned.Planned.{Planned}
 pub use Rattle.dirac_plan_laws.specs.Headers.{header_of}
@@ -42,8 +42,8 @@ counts_below t (suc level) =
     ++ (count_of t.codeblocks t.width t.depth level, count_of t.codeblocks (picture_height t) t.depth level) ∷ []
 
 -- the codeblock mode of these settings: 1 exactly where flat codeblocks are quantised finer
-abbrev pub mode_of : Settings → ℕ
-mode_of t = if t.finer == 0 then 0 else 1
+abbrev pub codeblock_mode_of : Settings → ℕ
+codeblock_mode_of t = if t.finer == 0 then 0 else 1
 
 -- the transform parameters of these settings
 abbrev pub transform_of : Settings → Transform
@@ -51,7 +51,7 @@ transform_of t = record {
   wavelet = t.wavelet;
   depth = t.depth;
   counts = counts_below t (t.depth + 1);
-  mode = mode_of t;
+  mode = codeblock_mode_of t;
 }
 
 -- the motion by a block table, if there is one
@@ -70,8 +70,8 @@ kind_of None = Intra
 kind_of (Some m) = Inter
 
 -- the samples of a plane less what is predicted for them, by rows; nothing is clipped
-abbrev pub less_prediction : Table → List ℤ → Table
-less_prediction t predicted = record {
+abbrev pub plane_less_prediction : Table → List ℤ → Table
+plane_less_prediction t predicted = record {
   width = t.width;
   height = t.height;
   values = zip2 (λ v other. v -ℤ other) t.values predicted;
@@ -79,23 +79,23 @@ less_prediction t predicted = record {
 
 -- the residual of a plane of a source: of an intra picture the plane itself, of an inter picture the plane less what is
 -- predicted for it
-abbrev pub left_of : Settings → List Picture → PictureHeader → Option CodedMotion → Picture → Component → Table
-left_of t refs head None p component = plane_of p component
-left_of t refs head (Some m) p component =
-    less_prediction (plane_of p component)
+abbrev pub residual_plane : Settings → List Picture → PictureHeader → Option CodedMotion → Picture → Component → Table
+residual_plane t refs head None p component = plane_of p component
+residual_plane t refs head (Some m) p component =
+    plane_less_prediction (plane_of p component)
     (predicted_among (sequence_of t) m (named refs head.ref1) (named refs head.ref2) component)
 
 -- its quantised bands
-abbrev pub bands_of : Settings → Kind → Table → List CodedBand
-bands_of t kind plane = plane_bands kind (transform_of t) t.finer t.index plane
+abbrev pub quantised_bands_of : Settings → Kind → Table → List CodedBand
+quantised_bands_of t kind plane = plane_bands kind (transform_of t) t.finer t.index plane
 
 -- the coded residual of a source
 abbrev pub residual_of : Settings → List Picture → PictureHeader → Option CodedMotion → Picture → CodedResidual
 residual_of t refs head m p = record {
   transform = transform_of t;
-  y = bands_of t (kind_of m) (left_of t refs head m p component.Y);
-  u = bands_of t (kind_of m) (left_of t refs head m p component.U);
-  v = bands_of t (kind_of m) (left_of t refs head m p component.V);
+  y = quantised_bands_of t (kind_of m) (residual_plane t refs head m p component.Y);
+  u = quantised_bands_of t (kind_of m) (residual_plane t refs head m p component.U);
+  v = quantised_bands_of t (kind_of m) (residual_plane t refs head m p component.V);
 }
 
 -- whether all bands of all planes have zeros alone

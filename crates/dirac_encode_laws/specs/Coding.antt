@@ -110,5 +110,5 @@ abbrev pub waiting_of : Made → Waiting
 waiting_of m = as_waiting m.shown
 
 -- the reconstructions of coded pictures, with their keys
-abbrev pub pushed : List Made → List Waiting
-pushed ms = map waiting_of ms
+abbrev pub keyed_reconstructions : List Made → List Waiting
+keyed_reconstructions ms = map waiting_of ms

@@ -5,14 +5,15 @@ use Rattle.dirac_common.specs.declared.picture.Picture.{Picture}
 use Rattle.dirac_types.specs.declared.settings.Settings.{Settings}
 use Rattle.std.specs.Io.KnownBytes.{Appends}
 use Rattle.dirac_io.specs.Writing.{AppendsFront}
-use Rattle.dirac_units.specs.Cut.{IsCut, start}
+use Rattle.dirac_units.specs.Cut.{IsCut, first_unit_place}
 use Rattle.dirac_refs.specs.Delivery.{deliver}
 use Rattle.dirac_content.specs.Raw.{raws}
 use Rattle.dirac_sources.specs.Sources.{left_over, raw_length, sources, whole_pictures}
 use Rattle.dirac_content.specs.Shown.{Outcome, IsShown}
 use Rattle.dirac_encode_laws.specs.declared.answers.Encoded.{Encoded}
 use Rattle.dirac_encode_laws.specs.declared.answers.Encoded.TheVariants as encoded
-use Rattle.dirac_encode_laws.specs.Coding.{AreAtIndexZero, IndexRule, Made, coding_under, jobs_of, own_index, pushed}
+use Rattle.dirac_encode_laws.specs.Coding.{AreAtIndexZero, IndexRule, Made, coding_under, jobs_of, own_index}
+use Rattle.dirac_encode_laws.specs.Coding.{keyed_reconstructions}
 use Rattle.dirac_encode_laws.specs.Coding.{reconstructions, reconstructions_under, shown_of}
 use Rattle.dirac_encode_laws.specs.Stream.{header_before, last_length, picture_length, stream_from, stream_of, stream_under}
 use Rattle.dirac_encode_laws.specs.Stream.{stream_units, units_of, units_under}
@@ -53,17 +54,17 @@ encoding_by t answer ms None = record {
 encoding_by t answer ms (Some m) = record {
   answer = encoded.UnitTooLong m.coded.header.number;
   stream = stream_before t (before_long t ms) m;
-  shown = deliver (pushed (before_long t ms));
+  shown = deliver (keyed_reconstructions (before_long t ms));
 }
 
 -- the answer behind whole pictures, where that many bytes are left over
-abbrev pub behind : ℕ → Encoded
-behind n = if n == 0 then encoded.Done else encoded.PartialPicture n
+abbrev pub answer_behind : ℕ → Encoded
+answer_behind n = if n == 0 then encoded.Done else encoded.PartialPicture n
 
 -- the answer where no unit is too long: too many pictures are whole, or bytes are left over, or neither
 abbrev pub ending : Settings → List ℕ → Encoded
 ending t bytes =
-    if nat_le (whole_pictures t bytes) t.pictures then behind (left_over t bytes) else encoded.TooManyPictures
+    if nat_le (whole_pictures t bytes) t.pictures then answer_behind (left_over t bytes) else encoded.TooManyPictures
 
 -- the encoding of raw pictures with these settings, under a rule for their indices
 unfoldable pub encoding_under : IndexRule → Settings → List ℕ → Encoding
@@ -86,26 +87,26 @@ abbrev pub WritesFront : Encoding →
 WritesFront e out out' side side' = AppendsFront out out' e.stream × AppendsFront side side' (raws e.shown)
 
 -- what an answer says of the encoding, and of what both sinks took
-abbrev pub AnswersEncode : Encoded → Encoding →
+abbrev pub AnswersEncodedStream : Encoded → Encoding →
     Option (List ℕ) → Option (List ℕ) → Option (List ℕ) → Option (List ℕ) → Type 0
-AnswersEncode encoded.ReadFault e out out' side side' = WritesFront e out out' side side'
-AnswersEncode encoded.WriteFault e out out' side side' = WritesFront e out out' side side'
-AnswersEncode encoded.SideFault e out out' side side' = WritesFront e out out' side side'
-AnswersEncode encoded.NoMemory e out out' side side' = WritesFront e out out' side side'
-AnswersEncode answer e out out' side side' = (answer ≡ e.answer) × WritesAll e out out' side side'
+AnswersEncodedStream encoded.ReadFault e out out' side side' = WritesFront e out out' side side'
+AnswersEncodedStream encoded.WriteFault e out out' side side' = WritesFront e out out' side side'
+AnswersEncodedStream encoded.SideFault e out out' side side' = WritesFront e out out' side side'
+AnswersEncodedStream encoded.NoMemory e out out' side side' = WritesFront e out out' side side'
+AnswersEncodedStream answer e out out' side side' = (answer ≡ e.answer) × WritesAll e out out' side side'
 
 -- an answer behind a whole stream
-abbrev pub EndsStream : Encoded → Type 0
-EndsStream encoded.Done = ⊤
-EndsStream (encoded.PartialPicture n) = ⊤
-EndsStream encoded.TooManyPictures = ⊤
-EndsStream answer = ⊥
+abbrev pub EncodesToTheEnd : Encoded → Type 0
+EncodesToTheEnd encoded.Done = ⊤
+EncodesToTheEnd (encoded.PartialPicture n) = ⊤
+EncodesToTheEnd encoded.TooManyPictures = ⊤
+EncodesToTheEnd answer = ⊥
 
 -- under a rule for their indices the stream of these bytes' pictures is cut into its units, has no fault and shows
 -- their reconstructions; where each picture's index is 0 these are the pictures themselves; the raw bytes of the
 -- pictures are the first of these bytes
 pub record IsRecoveredUnder (f : IndexRule) (t : Settings) (bytes : List ℕ) : Type 0 where
-  pub cut : IsCut start (stream_under f t (sources t bytes)) (units_under f t (sources t bytes)) None
+  pub cut : IsCut first_unit_place (stream_under f t (sources t bytes)) (units_under f t (sources t bytes)) None
   pub shows : (o : Outcome) × IsShown (stream_under f t (sources t bytes)) o
       × (o.shown ≡ reconstructions_under f t (sources t bytes)) × (o.end ≡ None)
   pub lossless : AreAtIndexZero f t [] (jobs_of t (sources t bytes))
@@ -115,7 +116,7 @@ pub record IsRecoveredUnder (f : IndexRule) (t : Settings) (bytes : List ℕ) : 
 -- the stream of these bytes' pictures is cut into its units, has no fault and shows their reconstructions; with
 -- quantiser index 0 these are the pictures themselves; the raw bytes of the pictures are the first of these bytes
 pub record IsRecovered (t : Settings) (bytes : List ℕ) : Type 0 where
-  pub cut : IsCut start (stream_of t (sources t bytes)) (stream_units t (sources t bytes)) None
+  pub cut : IsCut first_unit_place (stream_of t (sources t bytes)) (stream_units t (sources t bytes)) None
   pub shows : (o : Outcome) × IsShown (stream_of t (sources t bytes)) o
       × (o.shown ≡ reconstructions t (sources t bytes)) × (o.end ≡ None)
   pub lossless : t.index ≡ 0 → reconstructions t (sources t bytes) ≡ sources t bytes

@@ -6,7 +6,7 @@ use Rattle.dirac_types.specs.declared.settings.Settings.{Settings}
 use Rattle.dirac_common.specs.Limits.{IsIndex}
 use Rattle.dirac_types.specs.Settings.{IsAccepted}
 use Rattle.dirac_sequence.specs.Written.{sequence_of}
-use Rattle.dirac_refs.specs.Delivery.{flush}
+use Rattle.dirac_refs.specs.Delivery.{in_delivery_order}
 use Rattle.dirac_picture.specs.Grammar.{are_listed, is_intra, picture_read}
 use Rattle.dirac_encode_laws.specs.Payloads.{payload_of}
 use Rattle.dirac_content.specs.Content.{rebuilt}
@@ -14,9 +14,10 @@ use Rattle.dirac_content.specs.Shown.{Outcome, IsShown}
 use Rattle.dirac_sources.specs.Sources.{sources}
 use Rattle.dirac_encode_laws.specs.Coded.{IsSource, coded_of, motion_of, residual_of}
 use Rattle.dirac_encode_laws.specs.Coding.{AreAtIndexZero, IndexRule, Job, Made, coding, coding_under, jobs_of, made}
-use Rattle.dirac_encode_laws.specs.Coding.{made_under, pushed, reconstructions, reconstructions_under, refs_after}
+use Rattle.dirac_encode_laws.specs.Coding.{made_under, keyed_reconstructions, reconstructions, reconstructions_under}
+use Rattle.dirac_encode_laws.specs.Coding.{refs_after}
 use Rattle.dirac_encode_laws.specs.Encoding.{IsRecovered, IsRecoveredUnder, first_long}
-use Rattle.dirac_encode_laws.specs.Codable.{AreSmall}
+use Rattle.dirac_encode_laws.specs.Codable.{ResidualIsSmall}
 use Rattle.dirac_encode_laws.specs.Stream.{IsUnit, picture_length, stream_from, stream_of, stream_under}
 use Rattle.dirac_plan_laws.specs.Headers.{IsPlanned, header_of}
 
@@ -41,7 +42,8 @@ Begins (m ∷ ms) = (is_intra m.coded.code ≡ true) × (m.coded.header.number �
 abbrev pub StreamsShowTheirPictures : Type 0
 StreamsShowTheirPictures =
     (t : Settings) (ms : List Made) → IsAccepted t → AreMade t [] ms → Begins ms
-    → (o : Outcome) × IsShown (stream_from t ms) o × (o.shown ≡ flush (pushed ms)) × (o.end ≡ None)
+    → (o : Outcome) × IsShown (stream_from t ms) o × (o.shown ≡ in_delivery_order (keyed_reconstructions ms))
+    × (o.end ≡ None)
 
 -- a planned source whose references are found is read as it was coded
 abbrev pub JobsAreRead : Type 0
@@ -58,10 +60,10 @@ JobsAreSmall =
     (t : Settings) (refs : List Picture) (j : Job)
     → IsAccepted t → AllByRecursion (IsSource t) refs → IsSource t j.source → IsPlanned j.planned
     → are_listed refs (header_of j.planned) ≡ true
-    → AreSmall (residual_of t refs (header_of j.planned) (motion_of t refs j.planned j.source) j.source)
+    → ResidualIsSmall (residual_of t refs (header_of j.planned) (motion_of t refs j.planned j.source) j.source)
 
 -- each plane has as many samples as its sizes tell
-pub record IsWhole (p : Picture) : Type 0 where
+pub record IsWholePicture (p : Picture) : Type 0 where
   pub y : length p.y.values ≡ p.y.width * p.y.height
   pub u : length p.u.values ≡ p.u.width * p.u.height
   pub v : length p.v.values ≡ p.v.width * p.v.height
@@ -69,7 +71,7 @@ pub record IsWhole (p : Picture) : Type 0 where
 -- at index 0 a planned source with its number is shown again
 abbrev pub JobsAreKept : Type 0
 JobsAreKept =
-    (t : Settings) (refs : List Picture) (j : Job) → IsAccepted t → IsSource t j.source → IsWhole j.source
+    (t : Settings) (refs : List Picture) (j : Job) → IsAccepted t → IsSource t j.source → IsWholePicture j.source
     → IsPlanned j.planned → are_listed refs (header_of j.planned) ≡ true → j.source.number ≡ j.planned.number
     → t.index ≡ 0 → (made t refs j).shown ≡ j.source
 
@@ -95,7 +97,8 @@ SourcesShowReconstructions =
 abbrev pub SourcesAreKept : Type 0
 SourcesAreKept =
     (t : Settings) (pictures : List Picture) → AreSources t pictures
-    → AreNumbered 0 pictures → AllByRecursion IsWhole pictures → t.index ≡ 0 → reconstructions t pictures ≡ pictures
+    → AreNumbered 0 pictures → AllByRecursion IsWholePicture pictures → t.index ≡ 0 → reconstructions t pictures
+    ≡ pictures
 
 -- raw pictures are recovered from their stream where no unit is longer than the settings allow
 abbrev pub RawPicturesAreRecovered : Type 0
@@ -135,7 +138,7 @@ SourcesShowReconstructionsUnder =
 abbrev pub SourcesAreKeptUnder : Type 0
 SourcesAreKeptUnder =
     (f : IndexRule) → GivesIndices f → (t : Settings) (pictures : List Picture) → AreSourcesUnder f t pictures
-    → AreNumbered 0 pictures → AllByRecursion IsWhole pictures
+    → AreNumbered 0 pictures → AllByRecursion IsWholePicture pictures
     → AreAtIndexZero f t [] (jobs_of t pictures) → reconstructions_under f t pictures ≡ pictures
 
 -- raw pictures are recovered from their stream where no unit is longer than the settings allow

@@ -25,8 +25,8 @@ abbrev pub HasSpelledBlocks : Settings → Option CodedMotion → List Bool → 
 HasSpelledBlocks t m bits = HasSpelledTable t.blocks t.precision m bits
 
 -- with a coded picture behind them
-abbrev pub with_picture : Settings → CodedPicture → List Bool → List Bool
-with_picture t c bits = with_coded (sequence_of t) t.blocks t.precision c bits
+abbrev pub with_coded_picture : Settings → CodedPicture → List Bool → List Bool
+with_coded_picture t c bits = with_coded (sequence_of t) t.blocks t.precision c bits
 
 -- the payload of a coded picture
 abbrev pub payload_of : Settings → CodedPicture → List ℕ

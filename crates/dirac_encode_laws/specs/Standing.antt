@@ -4,10 +4,11 @@ use Rattle.std.specs.Io.KnownBytes.{Appends}
 use Rattle.std.specs.List.{AllByRecursion}
 use Rattle.dirac_common.specs.declared.picture.Picture.{Picture}
 use Rattle.dirac_types.specs.declared.settings.Settings.{Settings}
-use Rattle.dirac_refs.specs.Delivery.{Leaving, flush, pushed_all}
+use Rattle.dirac_refs.specs.Delivery.{Leaving, in_delivery_order, pushed_all}
 use Rattle.dirac_content.specs.Raw.{raws}
 use Rattle.dirac_sources.specs.Sources.{sources}
-use Rattle.dirac_encode_laws.specs.Coding.{IndexRule, Job, Made, coded_under, coding_under, jobs_of, pushed, shown_of}
+use Rattle.dirac_encode_laws.specs.Coding.{IndexRule, Job, Made, coded_under, coding_under, jobs_of}
+use Rattle.dirac_encode_laws.specs.Coding.{keyed_reconstructions, shown_of}
 use Rattle.dirac_encode_laws.specs.Encoding.{is_short}
 use Rattle.dirac_encode_laws.specs.Steps.{Progress}
 use Rattle.dirac_encode_laws.specs.Stream.{last_length, units_of}
@@ -19,11 +20,11 @@ AreShort t ms = AllByRecursion (λ m. is_short t m ≡ true) ms
 
 -- those that leave while these are coded, and those that wait then
 abbrev pub pushed_now : List Made → Leaving
-pushed_now ps = pushed_all [] (pushed ps)
+pushed_now ps = pushed_all [] (keyed_reconstructions ps)
 
 -- pictures leave by rising number, as the third law has it for all of a plan
 abbrev pub Leave : List Made → Type 0
-Leave ms = flush (pushed ms) ≡ by_number (length ms) (map shown_of ms)
+Leave ms = in_delivery_order (keyed_reconstructions ms) ≡ by_number (length ms) (map shown_of ms)
 
 -- the jobs of these bytes, and all that becomes of them under a rule for their indices
 abbrev pub jobs_in : Settings → List ℕ → List Job
@@ -34,7 +35,7 @@ coding_in f t bytes = coding_under f t (sources t bytes)
 
 -- the first pictures of the plan are coded: so much is written, so much is delivered, and the coding goes on from these
 -- references
-pub record Stands (f : IndexRule) (t : Settings) (bytes : List ℕ) (p : Progress)
+pub record CodingStands (f : IndexRule) (t : Settings) (bytes : List ℕ) (p : Progress)
     (out0 out side0 side : Option (List ℕ)) : Type 0 where
   pub done : List Made
   pub all : coding_in f t bytes ≡ done ++ coded_under f t p.refs (drop p.count (jobs_in t bytes))

@@ -31,8 +31,8 @@ last_units t count previous =
     if count == 0 then header_unit t 0 ++ end_unit (header_length t) else end_unit previous
 
 -- what leaves when the reconstruction of a picture joins those that wait
-abbrev pub leaving : Made → List Waiting → Leaving
-leaving m waiting = delivered (waiting ++ waiting_of m ∷ [])
+abbrev pub leaving_with : Made → List Waiting → Leaving
+leaving_with m waiting = delivered (waiting ++ waiting_of m ∷ [])
 
 -- a picture was coded: its units are written, and what left is delivered
 pub record IsCoded (t : Settings) (m : Made) (old new : Progress) (out out' side side' : Option (List ℕ)) : Type 0 where
@@ -40,9 +40,9 @@ pub record IsCoded (t : Settings) (m : Made) (old new : Progress) (out out' side
   pub count : new.count ≡ old.count + 1
   pub previous : new.previous ≡ picture_length m
   pub refs : new.refs ≡ refs_after old.refs m
-  pub waiting : new.delivery ≡ (leaving m old.delivery).waiting
+  pub waiting : new.delivery ≡ (leaving_with m old.delivery).waiting
   pub written : Appends out out' (picture_units t old.previous m)
-  pub delivered : Appends side side' (raws (leaving m old.delivery).gone)
+  pub delivered : Appends side side' (raws (leaving_with m old.delivery).gone)
 
 -- a picture's unit is too long: the sequence header before it alone is written
 pub record IsTooLong (t : Settings) (m : Made) (number : ℕ) (old : Progress)
@@ -53,12 +53,12 @@ pub record IsTooLong (t : Settings) (m : Made) (number : ℕ) (old : Progress)
   pub kept : Keeps side side'
 
 -- a fault or want of memory in a picture: in its sequence header or behind it, or once its unit was found short enough
-abbrev pub BreaksOff : Settings → Made → Progress →
+abbrev pub PictureBreaksOff : Settings → Made → Progress →
     Option (List ℕ) → Option (List ℕ) → Option (List ℕ) → Option (List ℕ) → Type 0
-BreaksOff t m old out out' side side' =
+PictureBreaksOff t m old out out' side side' =
     (AppendsFront out out' (header_before t m old.previous) × Keeps side side')
     ⊎ ((is_short t m ≡ true) × AppendsFront out out' (picture_units t old.previous m)
-    × AppendsFront side side' (raws (leaving m old.delivery).gone))
+    × AppendsFront side side' (raws (leaving_with m old.delivery).gone))
 
 -- a stream was ended: the last units are written, and all that waited is delivered
 pub record IsEnded (t : Settings) (old : Progress) (out out' side side' : Option (List ℕ)) : Type 0 where
@@ -78,9 +78,9 @@ no_progress = record { count = 0; previous = 0; refs = []; delivery = [] }
 abbrev pub StopsPicture : Settings → Made → Progress → Encoded →
     Option (List ℕ) → Option (List ℕ) → Option (List ℕ) → Option (List ℕ) → Type 0
 StopsPicture t m old (encoded.UnitTooLong number) out out' side side' = IsTooLong t m number old out out' side side'
-StopsPicture t m old encoded.WriteFault out out' side side' = BreaksOff t m old out out' side side'
-StopsPicture t m old encoded.SideFault out out' side side' = BreaksOff t m old out out' side side'
-StopsPicture t m old encoded.NoMemory out out' side side' = BreaksOff t m old out out' side side'
+StopsPicture t m old encoded.WriteFault out out' side side' = PictureBreaksOff t m old out out' side side'
+StopsPicture t m old encoded.SideFault out out' side side' = PictureBreaksOff t m old out out' side side'
+StopsPicture t m old encoded.NoMemory out out' side side' = PictureBreaksOff t m old out out' side side'
 StopsPicture t m old answer out out' side side' = ⊥
 
 -- a fault of a sink, or want of memory

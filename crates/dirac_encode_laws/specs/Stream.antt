@@ -5,7 +5,7 @@ use Rattle.dirac_common.specs.declared.picture.Picture.{Picture}
 use Rattle.dirac_types.specs.declared.settings.Settings.{Settings}
 use Rattle.dirac_types.specs.Settings.{IsAccepted}
 use Rattle.dirac_common.specs.declared.codes.TheConstants.{SEQUENCE_HEADER}
-use Rattle.dirac_units.specs.Cut.{UnitText, IsCut, start}
+use Rattle.dirac_units.specs.Cut.{UnitText, IsCut, first_unit_place}
 pub use Rattle.dirac_units.specs.Writing.{end_info, end_unit, info_for, unit}
 use Rattle.dirac_sequence_header.specs.Grammar.{sequence_read}
 use Rattle.dirac_sequence.specs.Written.{sequence_of, sequence_payload}
@@ -116,4 +116,5 @@ HeadersAreRead =
 -- a stream is cut into just its units, and has no fault there
 abbrev pub StreamsAreCut : Type 0
 StreamsAreCut =
-    (t : Settings) (ms : List Made) → AllByRecursion IsUnit ms → IsCut start (stream_from t ms) (units_in t ms) None
+    (t : Settings) (ms : List Made) → AllByRecursion IsUnit ms
+    → IsCut first_unit_place (stream_from t ms) (units_in t ms) None

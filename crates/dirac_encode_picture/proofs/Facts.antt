@@ -20,14 +20,14 @@ use Rattle.dirac_content.specs.Content.{rebuilt}
 use Rattle.dirac_plan.specs.declared.planned.Planned.{Planned}
 use Rattle.dirac_plan_laws.specs.Headers.{header_of}
 use Rattle.dirac_encode_laws.specs.Coded.{coded_with, is_left_out, motion_among, motion_with, residual_of}
-use Rattle.dirac_encode_laws.specs.Laws.{IsWhole}
-use Rattle.dirac_encode_laws.specs.Codable.{AreSmall}
+use Rattle.dirac_encode_laws.specs.Laws.{IsWholePicture}
+use Rattle.dirac_encode_laws.specs.Codable.{ResidualIsSmall}
 use Rattle.dirac_encode_laws.proofs.Kept.{kept_with}
 use Rattle.dirac_encode_laws.proofs.Lefts.{motion_fits}
 use Rattle.dirac_encode_laws.proofs.Reading.{Moves, predicting, read_spelled, residual_fits, residual_small}
 use Rattle.dirac_encode_laws.proofs.Reading.Moves.{moves, stays}
 use Rattle.dirac_encode_picture.specs.declared.picture.Coded.{Coded}
-use Rattle.dirac_encode_picture.specs.Asked.{HasBlocks, IsAsked, IsCoding}
+use Rattle.dirac_encode_picture.specs.Asked.{HasBlocks, IsAsked, IsCodingOfPicture}
 
 -- just an inter picture has motion
 pub moves_of : (t : Settings) (q : Planned) (o : Option BlockTable) → HasBlocks t q.code o
@@ -80,7 +80,7 @@ payload_read t refs q p m c payload is known ec e spelled =
     (subst (λ (x : CodedPicture). HasSpelledBlocks t x.motion (header_bits [] x.code x.header)) ec spelled)
 
 pub small_so : (t : Settings) (refs : List Picture) (q : Planned) (p : Picture) (m : Option CodedMotion)
-    → IsAsked t refs q p → Moves t q m → AreSmall (residual_of t refs (header_of q) m p)
+    → IsAsked t refs q p → Moves t q m → ResidualIsSmall (residual_of t refs (header_of q) m p)
 small_so t refs q p m is known = residual_small t refs q p m is.accepted is.listed is.source is.planned is.found known
 
 intra_moves : (t : Settings) (q : Planned) (m : Option CodedMotion) → Moves t q m → m ≡ None → is_intra q.code ≡ true
@@ -94,14 +94,14 @@ inter_moves t q (Some m) (moves b inter chose) x e = inter
 
 -- at index 0 a source is shown again
 pub shown_again : (t : Settings) (refs : List Picture) (q : Planned) (p : Picture) (m : Option CodedMotion)
-    → IsAsked t refs q p → Moves t q m → IsWhole p → p.number ≡ q.number → t.index ≡ 0
+    → IsAsked t refs q p → Moves t q m → IsWholePicture p → p.number ≡ q.number → t.index ≡ 0
     → rebuilt (sequence_of t) refs (coded_with t refs q p m) ≡ p
 shown_again t refs q p m is known whole number none =
     kept_with t refs q p m is.accepted is.source whole is.planned is.found (intra_moves t q m known) (inter_moves t q m known) number none
 
 -- what is coded with the same motion
-pub coding_by : (t : Settings) (refs : List Picture) (q : Planned) (p : Picture) (m n : Option CodedMotion) (r : Result Coded NoMemory) → m ≡ n → IfOk r (IsCoding t refs q p m) → IfOk r (IsCoding t refs q p n)
-coding_by t refs q p m n r e is = subst (λ (x : Option CodedMotion). IfOk r (IsCoding t refs q p x)) e is
+pub coding_by : (t : Settings) (refs : List Picture) (q : Planned) (p : Picture) (m n : Option CodedMotion) (r : Result Coded NoMemory) → m ≡ n → IfOk r (IsCodingOfPicture t refs q p m) → IfOk r (IsCodingOfPicture t refs q p n)
+coding_by t refs q p m n r e is = subst (λ (x : Option CodedMotion). IfOk r (IsCodingOfPicture t refs q p x)) e is
 
 -- a picture that is rebuilt from the same
 pub shown_from : (s u : Sequence) (refs : List Picture) (c d : CodedPicture) → s ≡ u → c ≡ d

@@ -14,7 +14,7 @@ use Rattle.dirac_picture.specs.declared.coded.CodedMotion.{CodedMotion}
 use Rattle.dirac_content.specs.Content.{height_of, named, plane_of, predicted_among, width_of}
 use Rattle.dirac_plan.specs.declared.planned.Planned.{Planned}
 use Rattle.dirac_encode_laws.specs.Coded.{IsSource, motion_with}
-use Rattle.dirac_encode_laws.specs.Laws.{IsWhole}
+use Rattle.dirac_encode_laws.specs.Laws.{IsWholePicture}
 use Rattle.dirac_motion.specs.Chosen.{IsChosen}
 use Rattle.dirac_motion.specs.Lent.{AreNamed, first_of, second_of}
 use Rattle.dirac_motion.specs.declared.lent.References.{References}
@@ -23,7 +23,7 @@ use Rattle.dirac_encode_laws.proofs.Reading.{predicting, second_found, source_pl
 use Rattle.dirac_encode_planes.specs.declared.predictions.Predictions.{Predictions}
 use Rattle.dirac_encode_picture.specs.Asked.{IsAsked}
 use Rattle.dirac_encode_planes.specs.Predictions.{IsPicturePredictedBy, IsPredictedBy}
-use Rattle.dirac_reconstruct.specs.Predicted.{ArePredictions, IsPrediction}
+use Rattle.dirac_reconstruct.specs.Predicted.{ArePredictions, IsPredictionOfPlane}
 use Rattle.dirac_encode_laws.proofs.Kept.{whole_plane}
 
 -- what is predicted from the references of a plan
@@ -47,14 +47,14 @@ second_lent t refs q p m b r is em chose lent two =
 
 -- what is predicted, by the definitions
 pub same_among : (t : Settings) (s : Sequence) (refs : List Picture) (q : Planned) (m : CodedMotion) (b : BlockTable) (o : Component) (values : List ℤ) → s ≡ sequence_of t → m ≡ motion_with t b
-    → IsPrediction s (named refs q.ref1) (named refs q.ref2) m o values
+    → IsPredictionOfPlane s (named refs q.ref1) (named refs q.ref2) m o values
     → values ≡ predicted_among (sequence_of t) (motion_with t b) (named refs q.ref1) (named refs q.ref2) o
 same_among t s refs q m b o values es em is =
     is.same ∙ ap₂ (λ (x : Sequence) (y : CodedMotion). predicted_among x y (named refs q.ref1) (named refs q.ref2) o) es em
 
 -- it can be taken away from a plane of the source
-plane_asked : (t : Settings) (s : Sequence) (refs : List Picture) (q : Planned) (p : Picture) (m : CodedMotion) (b : BlockTable) (o : Component) (values : List ℤ) → IsAsked t refs q p → IsWhole p → s ≡ sequence_of t
-    → m ≡ motion_with t b → IsChosen t q.code b → IsPrediction s (named refs q.ref1) (named refs q.ref2) m o values
+plane_asked : (t : Settings) (s : Sequence) (refs : List Picture) (q : Planned) (p : Picture) (m : CodedMotion) (b : BlockTable) (o : Component) (values : List ℤ) → IsAsked t refs q p → IsWholePicture p → s ≡ sequence_of t
+    → m ≡ motion_with t b → IsChosen t q.code b → IsPredictionOfPlane s (named refs q.ref1) (named refs q.ref2) m o values
     → IsPredictedBy (plane_of p o) values
 plane_asked t s refs q p m b o values is whole es em chose predicted =
     let one : (x : Option ℕ) → ForSome (named refs x) (IsSource t) = λ x. named_is (IsSource t) refs x is.listed in
@@ -67,7 +67,7 @@ plane_asked t s refs q p m b o values is whole es em chose predicted =
       left = differences_small (plane_of p o) values (samples_are (plane_of p o).values plane.samples) small;
     }
 
-pub picture_asked : (t : Settings) (s : Sequence) (refs : List Picture) (q : Planned) (p : Picture) (m : CodedMotion) (b : BlockTable) (ps : Predictions) → IsAsked t refs q p → IsWhole p → s ≡ sequence_of t
+pub picture_asked : (t : Settings) (s : Sequence) (refs : List Picture) (q : Planned) (p : Picture) (m : CodedMotion) (b : BlockTable) (ps : Predictions) → IsAsked t refs q p → IsWholePicture p → s ≡ sequence_of t
     → m ≡ motion_with t b → IsChosen t q.code b → ArePredictions s (named refs q.ref1) (named refs q.ref2) m ps
     → IsPicturePredictedBy p ps
 picture_asked t s refs q p m b ps is whole es em chose predicted = record {

@@ -24,9 +24,9 @@ use Rattle.dirac_plan.specs.declared.planned.Planned.{Planned}
 use Rattle.dirac_plan_laws.specs.Headers.{header_of}
 use Rattle.dirac_analysis.specs.Analysis.{Analysis, quantised}
 use Rattle.dirac_analysis.proofs.Analysing.{plane_quantised}
-use Rattle.dirac_encode_laws.specs.Coded.{bands_of, coded_with, is_left_out, kind_of, less_prediction, motion_among}
+use Rattle.dirac_encode_laws.specs.Coded.{quantised_bands_of, coded_with, is_left_out, kind_of, plane_less_prediction, motion_among}
 use Rattle.dirac_encode_laws.specs.Coded.{motion_with, residual_of, transform_of}
-use Rattle.dirac_encode_laws.specs.Laws.{IsWhole}
+use Rattle.dirac_encode_laws.specs.Laws.{IsWholePicture}
 use Rattle.dirac_motion.specs.Chosen.{IsChosen, at_index}
 use Rattle.dirac_reconstruct.specs.declared.showing.Compensated.{Compensated}
 use Rattle.dirac_encode_picture.specs.declared.prepared.Prepared.{Prepared}
@@ -43,7 +43,7 @@ use Rattle.dirac_encode_laws.proofs.Indices.{sources_with}
 -- ---- what is prepared
 
 pub intra_prepared : (t : Settings) (refs : List Picture) (q : Planned) (p : Picture) (a : AnalysedPlanes)
-    → IsAsked t refs q p → IsWhole p → is_intra q.code ≡ true → AreAnalysed (transform_of t) Intra p.y p.u p.v a
+    → IsAsked t refs q p → IsWholePicture p → is_intra q.code ≡ true → AreAnalysed (transform_of t) Intra p.y p.u p.v a
     → let x : Prepared = record { compensated = None; left = a } in IsPrepared t refs q p x
 intra_prepared t refs q p a asked whole intra is = record {
   asked = asked;
@@ -58,15 +58,15 @@ pub analysed_with : (t : Settings) (x : Transform) (kind : Kind) (y u v : Table)
     → x ≡ transform_of t → AreAnalysed x kind y u v a → AreAnalysed (transform_of t) kind y u v a
 analysed_with t x kind y u v a e is = subst (λ (z : Transform). AreAnalysed z kind y u v a) e is
 
-pub inter_prepared : (t : Settings) (s : Sequence) (refs : List Picture) (q : Planned) (p : Picture) (m : CodedMotion) (b : BlockTable) (ps : Predictions) (a : AnalysedPlanes) → IsAsked t refs q p → IsWhole p → s ≡ sequence_of t
+pub inter_prepared : (t : Settings) (s : Sequence) (refs : List Picture) (q : Planned) (p : Picture) (m : CodedMotion) (b : BlockTable) (ps : Predictions) (a : AnalysedPlanes) → IsAsked t refs q p → IsWholePicture p → s ≡ sequence_of t
     → is_intra q.code ≡ false → IsChosen t q.code b → m ≡ motion_with t b
     → ArePredictions s (named refs q.ref1) (named refs q.ref2) m ps
-    → AreAnalysed (transform_of t) Inter (less_prediction p.y ps.y.values) (less_prediction p.u ps.u.values) (less_prediction p.v ps.v.values) a
+    → AreAnalysed (transform_of t) Inter (plane_less_prediction p.y ps.y.values) (plane_less_prediction p.u ps.u.values) (plane_less_prediction p.v ps.v.values) a
     → let c : Compensated = record { motion = m; predictions = ps } in
     let x : Prepared = record { compensated = Some c; left = a } in IsPrepared t refs q p x
 inter_prepared t s refs q p m b ps a asked whole es inter chose em predicted is =
     let of : CodedMotion → Prepared = λ x. let c : Compensated = record { motion = x; predictions = ps } in record { compensated = Some c; left = a } in
-    let less : Table → List ℤ → Table = λ plane values. less_prediction plane values in
+    let less : Table → List ℤ → Table = λ plane values. plane_less_prediction plane values in
     let right : ArePredictions (sequence_of t) (named refs q.ref1) (named refs q.ref2) (motion_with t b) ps =
     subst (λ (x : Sequence). ArePredictions x (named refs q.ref1) (named refs q.ref2) (motion_with t b) ps) es (subst (λ (x : CodedMotion). ArePredictions s (named refs q.ref1) (named refs q.ref2) x ps) em predicted) in
     subst (λ (x : CodedMotion). IsPrepared t refs q p (of x)) (sym em)
@@ -89,7 +89,7 @@ left_quantisable t refs q p m a is = record { y = is.y.fits; u = is.u.fits; v = 
 
 -- an analysed plane quantised has the bands of the definitions
 bands_same : (t : Settings) (kind : Kind) (plane : Table) (a : Analysis) → IsAnalysed (transform_of t) kind plane a
-    → quantised kind (transform_of t) t.finer t.index a ≡ bands_of t kind plane
+    → quantised kind (transform_of t) t.finer t.index a ≡ quantised_bands_of t kind plane
 bands_same t kind plane a is =
     ap (λ (x : Analysis). quantised kind (transform_of t) t.finer t.index x) is.same
     ∙ plane_quantised kind (transform_of t) t.finer t.index plane

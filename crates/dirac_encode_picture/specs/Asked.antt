@@ -14,7 +14,7 @@ use Rattle.dirac_content.specs.Content.{rebuilt}
 use Rattle.dirac_plan.specs.declared.planned.Planned.{Planned}
 use Rattle.dirac_plan_laws.specs.Headers.{IsPlanned, header_of}
 use Rattle.dirac_encode_laws.specs.Coded.{IsSource, coded_with, motion_among, residual_of}
-use Rattle.dirac_encode_laws.specs.Codable.{AreSmall}
+use Rattle.dirac_encode_laws.specs.Codable.{ResidualIsSmall}
 use Rattle.dirac_motion.specs.Chosen.{IsChosen}
 use Rattle.dirac_motion.specs.Lent.{AreLent, AreNamed}
 use Rattle.dirac_encode_picture.specs.declared.asked.Asked.{Asked}
@@ -52,10 +52,10 @@ abbrev pub coded_by : Settings → List Picture → Planned → Picture → Opti
 coded_by t refs q p o = coded_with t refs q p (motion_among t o)
 
 -- what the coding of a picture with this motion gives
-pub record IsCoding (t : Settings) (refs : List Picture) (q : Planned) (p : Picture) (m : Option CodedMotion)
+pub record IsCodingOfPicture (t : Settings) (refs : List Picture) (q : Planned) (p : Picture) (m : Option CodedMotion)
     (c : Coded) : Type 0 where
   pub payload : c.payload.items ≡ payload_of t (coded_with t refs q p m)
   pub shown : c.shown ≡ rebuilt (sequence_of t) refs (coded_with t refs q p m)
   pub read : picture_read q.code (sequence_of t) refs c.payload.items ≡ Ok (coded_with t refs q p m)
-  pub magnitudes_bounded : AreSmall (residual_of t refs (header_of q) m p)
+  pub magnitudes_bounded : ResidualIsSmall (residual_of t refs (header_of q) m p)
   pub lossless : p.number ≡ q.number → t.index ≡ 0 → c.shown ≡ p

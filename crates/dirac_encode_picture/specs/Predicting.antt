@@ -5,7 +5,7 @@ use Rattle.dirac_rebuild.specs.Moved.{IsMoved}
 use Rattle.dirac_motion.specs.Lent.{AreLent, first_of, second_of}
 use Rattle.dirac_encode_picture.specs.declared.predictions.Predicting.{Predicting}
 use Rattle.dirac_encode_planes.specs.declared.predictions.Predictions.{Predictions}
-use Rattle.dirac_reconstruct.specs.Predicted.{ArePredictions, IsPrediction}
+use Rattle.dirac_reconstruct.specs.Predicted.{ArePredictions, IsPredictionOfPlane}
 
 -- motion of a sequence, with as many references of it as the motion has
 pub record CanBePredicted (f : Predicting) : Type 0 where
@@ -16,11 +16,12 @@ pub record CanBePredicted (f : Predicting) : Type 0 where
 -- these values are predicted for a plane
 abbrev pub IsPredicted : Predicting → Component → List ℤ → Type 0
 IsPredicted f component values =
-    IsPrediction f.moved.sequence.now (Some (first_of f.references.now)) (second_of f.references.now) f.moved.motion.now
+    IsPredictionOfPlane f.moved.sequence.now (Some (first_of f.references.now)) (second_of f.references.now)
+    f.moved.motion.now
     component values
 
 -- these are predicted for the planes
-abbrev pub ArePredicted : Predicting → Predictions → Type 0
-ArePredicted f ps =
+abbrev pub PlanesArePredicted : Predicting → Predictions → Type 0
+PlanesArePredicted f ps =
     ArePredictions f.moved.sequence.now (Some (first_of f.references.now)) (second_of f.references.now)
     f.moved.motion.now ps

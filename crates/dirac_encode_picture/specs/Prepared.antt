@@ -13,8 +13,8 @@ use Rattle.dirac_analysis.specs.Analysis.{quantised}
 use Rattle.dirac_content.specs.Content.{named}
 use Rattle.dirac_plan.specs.declared.planned.Planned.{Planned}
 use Rattle.dirac_plan_laws.specs.Headers.{header_of}
-use Rattle.dirac_encode_laws.specs.Coded.{kind_of, left_of, motion_among, motion_with, transform_of}
-use Rattle.dirac_encode_laws.specs.Laws.{IsWhole}
+use Rattle.dirac_encode_laws.specs.Coded.{kind_of, residual_plane, motion_among, motion_with, transform_of}
+use Rattle.dirac_encode_laws.specs.Laws.{IsWholePicture}
 use Rattle.dirac_motion.specs.Chosen.{at_index}
 use Rattle.dirac_encode_picture.specs.declared.asked.Asked.{Asked}
 use Rattle.dirac_reconstruct.specs.declared.showing.Compensated.{Compensated}
@@ -36,13 +36,13 @@ pub record IsCompensated (t : Settings) (refs : List Picture) (q : Planned) (c :
 -- what is left of the planes of a source with this motion, analysed
 abbrev pub IsLeft : Settings → List Picture → Planned → Picture → Option CodedMotion → AnalysedPlanes → Type 0
 IsLeft t refs q p m a =
-    AreAnalysed (transform_of t) (kind_of m) (left_of t refs (header_of q) m p component.Y)
-    (left_of t refs (header_of q) m p component.U) (left_of t refs (header_of q) m p component.V) a
+    AreAnalysed (transform_of t) (kind_of m) (residual_plane t refs (header_of q) m p component.Y)
+    (residual_plane t refs (header_of q) m p component.U) (residual_plane t refs (header_of q) m p component.V) a
 
 -- a planned source is prepared to be coded with these settings, whatever their quantiser index
 pub record IsPrepared (t : Settings) (refs : List Picture) (q : Planned) (p : Picture) (x : Prepared) : Type 0 where
   pub asked : IsAsked t refs q p
-  pub as_many_samples : IsWhole p
+  pub as_many_samples : IsWholePicture p
   pub blocks : HasBlocks t q.code (blocks_in x)
   pub compensated : IfSome x.compensated (IsCompensated t refs q)
   pub left : IsLeft t refs q p (motion_among t (blocks_in x)) x.left
@@ -56,8 +56,8 @@ abbrev pub coded_for : Asked → Option BlockTable → CodedPicture
 coded_for a o = coded_by a.settings.now a.refs.now a.planned.now a.source.now o
 
 -- the coded picture of what was prepared, at a quantiser index
-abbrev pub coded_at : Asked → ℕ → Prepared → CodedPicture
-coded_at a index x =
+abbrev pub coded_at_index : Asked → ℕ → Prepared → CodedPicture
+coded_at_index a index x =
     coded_by (at_index a.settings.now index) a.refs.now a.planned.now a.source.now (blocks_in x)
 
 -- the coded residual of analysed planes, at the index of these settings

@@ -9,7 +9,7 @@ ghost use Rattle.dirac_encode_laws.specs.Payloads.{payload_of};
 ghost use Rattle.dirac_content.specs.Content.{rebuilt};
 ghost use Rattle.dirac_plan_laws.specs.Headers.{IsPlanned, header_of};
 ghost use Rattle.dirac_encode_laws.specs.Coded.{IsSource, coded_of, motion_of, residual_of};
-ghost use Rattle.dirac_encode_laws.specs.Codable.{AreSmall};
+ghost use Rattle.dirac_encode_laws.specs.Codable.{ResidualIsSmall};
 ghost use Rattle.dirac_motion.specs.Chosen.{IsChosenAtEachIndex, chosen, chosen_unless_intra};
 ghost use Rattle.dirac_encode_picture.specs.Asked.{CanBeCoded};
 ghost use Rattle.dirac_encode_picture.specs.Prepared.{IsPreparedFor, blocks_in};
@@ -117,7 +117,8 @@ pub fn code_picture<R: Threads + Sync, G: RowGate>(
     ensures read { IfOk result (λ c. picture_read planned.now.code (sequence_of settings.now) refs.now c.payload.items
         ≡ Ok (coded_of settings.now refs.now planned.now source.now)) }
     // Its coefficients stay below 2^38.
-    ensures magnitudes_bounded { IfOk result (λ c. AreSmall (residual_of settings.now refs.now (header_of planned.now)
+    ensures magnitudes_bounded { IfOk result
+        (λ c. ResidualIsSmall (residual_of settings.now refs.now (header_of planned.now)
         (motion_of settings.now refs.now planned.now source.now) source.now)) }
     // At index 0 nothing is lost.
     ensures lossless { IfOk result (λ c. source.now.number ≡ planned.now.number → settings.now.index ≡ 0

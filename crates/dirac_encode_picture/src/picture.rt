@@ -11,10 +11,10 @@ ghost use Rattle.dirac_encode_laws.specs.Payloads.{payload_of};
 ghost use Rattle.dirac_content.specs.Content.{rebuilt};
 ghost use Rattle.dirac_plan_laws.specs.Headers.{IsPlanned, header_of};
 ghost use Rattle.dirac_encode_laws.specs.Coded.{IsSource, motion_among, residual_of};
-ghost use Rattle.dirac_encode_laws.specs.Codable.{AreSmall};
+ghost use Rattle.dirac_encode_laws.specs.Codable.{ResidualIsSmall};
 ghost use Rattle.dirac_motion.specs.Chosen.{at_index};
-ghost use Rattle.dirac_encode_picture.specs.Asked.{HasBlocks, IsCoding, coded_by};
-ghost use Rattle.dirac_encode_picture.specs.Prepared.{IsPreparedFor, blocks_in, coded_at};
+ghost use Rattle.dirac_encode_picture.specs.Asked.{HasBlocks, IsCodingOfPicture, coded_by};
+ghost use Rattle.dirac_encode_picture.specs.Prepared.{IsPreparedFor, blocks_in, coded_at_index};
 
 use crate::asked::Asked;
 use crate::making::coded_picture;
@@ -51,7 +51,7 @@ pub(crate) fn code_at<W: Workers>(
 ) -> Result<Coded, NoMemory>
     requires shared { W.are_shared workers.now }
     requires prepared { IsPreparedFor asked.now prepared.now }
-    ensures { IfOk result (IsCoding asked.now.settings.now asked.now.refs.now asked.now.planned.now
+    ensures { IfOk result (IsCodingOfPicture asked.now.settings.now asked.now.refs.now asked.now.planned.now
         asked.now.source.now (motion_among asked.now.settings.now (blocks_in prepared.now))) }
 {
     let sequence = sequence_of(asked.settings);
@@ -87,16 +87,16 @@ pub fn code_prepared(
     requires prepared { IsPreparedFor asked.now prepared.now }
     requires index { IsIndex index }
     ensures payload { IfOk result (λ c. c.payload.items
-        ≡ payload_of (at_index asked.now.settings.now index) (coded_at asked.now index prepared.now)) }
+        ≡ payload_of (at_index asked.now.settings.now index) (coded_at_index asked.now index prepared.now)) }
     // What is shown is what a decoder rebuilds from it.
     ensures shown { IfOk result (λ c. c.shown ≡ rebuilt (sequence_for (at_index asked.now.settings.now index))
-        asked.now.refs.now (coded_at asked.now index prepared.now)) }
+        asked.now.refs.now (coded_at_index asked.now index prepared.now)) }
     // The payload is read as that coded picture, with these pictures listed.
     ensures read { IfOk result (λ c. picture_read asked.now.planned.now.code
         (sequence_for (at_index asked.now.settings.now index)) asked.now.refs.now c.payload.items
-        ≡ Ok (coded_at asked.now index prepared.now)) }
+        ≡ Ok (coded_at_index asked.now index prepared.now)) }
     // Its coefficients stay below 2^38.
-    ensures magnitudes_bounded { IfOk result (λ c. AreSmall (residual_of (at_index asked.now.settings.now index)
+    ensures magnitudes_bounded { IfOk result (λ c. ResidualIsSmall (residual_of (at_index asked.now.settings.now index)
         asked.now.refs.now (header_of asked.now.planned.now)
         (motion_among (at_index asked.now.settings.now index) (blocks_in prepared.now)) asked.now.source.now)) }
     // At index 0 nothing is lost.
@@ -142,7 +142,8 @@ pub fn code_with_blocks(
         picture_read planned.now.code (sequence_for settings.now) refs.now c.payload.items
         ≡ Ok (coded_by settings.now refs.now planned.now source.now (option_copied blocks.entry))) }
     // Its coefficients stay below 2^38.
-    ensures magnitudes_bounded { IfOk result (λ c. AreSmall (residual_of settings.now refs.now (header_of planned.now)
+    ensures magnitudes_bounded { IfOk result
+        (λ c. ResidualIsSmall (residual_of settings.now refs.now (header_of planned.now)
         (motion_among settings.now (option_copied blocks.entry)) source.now)) }
     // At index 0 nothing is lost.
     ensures lossless { IfOk result (λ c. source.now.number ≡ planned.now.number → settings.now.index ≡ 0

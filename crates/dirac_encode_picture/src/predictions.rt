@@ -2,7 +2,7 @@
 
 ghost use Rattle.std.specs.Prelude.{IfOk};
 ghost use Rattle.dirac_common.specs.declared.formats.Component.TheVariants as component;
-ghost use Rattle.dirac_encode_picture.specs.Predicting.{ArePredicted, CanBePredicted, IsPredicted};
+ghost use Rattle.dirac_encode_picture.specs.Predicting.{PlanesArePredicted, CanBePredicted, IsPredicted};
 
 use dirac_common::NoMemory;
 use dirac_encode_planes::{Planes, Predictions, side_by_side};
@@ -58,7 +58,7 @@ fn predict_plane(
 /// Predicts the planes of an inter picture.
 pub(crate) fn predict_planes(alloc: Global, from: &Predicting<'_>) -> Result<Predictions, NoMemory>
     requires { CanBePredicted from.now }
-    ensures { IfOk result (ArePredicted from.now) }
+    ensures { IfOk result (PlanesArePredicted from.now) }
 {
     let y = predict_plane(alloc, from, Component::Y)?;
     let u = predict_plane(alloc, from, Component::U)?;
@@ -74,7 +74,7 @@ pub(crate) fn predict_side_by_side<R: Threads + Sync>(
     workers: u32,
 ) -> Result<Predictions, NoMemory>
     requires { CanBePredicted from.now }
-    ensures { IfOk result (ArePredicted from.now) }
+    ensures { IfOk result (PlanesArePredicted from.now) }
 {
     let work = |component: Component| -> Result<Predicted, NoMemory>
         requires { CanBePredicted from.now }

@@ -3,7 +3,7 @@
 ghost use Rattle.std.specs.Prelude.{◌≡◌, false, true, None, Some, IfOk};
 ghost use Rattle.std.specs.Option.{ForSome, option_copied};
 ghost use Rattle.dirac_picture.specs.Grammar.{is_intra};
-ghost use Rattle.dirac_encode_laws.specs.Laws.{IsWhole};
+ghost use Rattle.dirac_encode_laws.specs.Laws.{IsWholePicture};
 ghost use Rattle.dirac_motion.specs.Chosen.{IsChosen};
 ghost use Rattle.dirac_encode_picture.specs.Asked.{CanBeCoded, HasBlocks, IsMoving, blocks_of};
 ghost use Rattle.dirac_encode_picture.specs.Prepared.{IsPreparedFor, blocks_in};
@@ -41,7 +41,7 @@ pub struct Prepared {
 
 /// The planes of a picture have as many samples as their sizes tell.
 fn are_whole(picture: &Picture)
-    ensures { IsWhole picture.now }
+    ensures { IsWholePicture picture.now }
 {
     let _y = picture.y.width();
     let _u = picture.u.width();
@@ -56,7 +56,7 @@ fn prepare_intra<W: Workers>(
 ) -> Result<Prepared, NoMemory>
     requires shared { W.are_shared workers.now }
     requires asked { CanBeCoded asked.now }
-    requires as_many_samples { IsWhole asked.now.source.now }
+    requires as_many_samples { IsWholePicture asked.now.source.now }
     requires intra { is_intra asked.now.planned.now.code ≡ true }
     ensures prepared { IfOk result (IsPreparedFor asked.now) }
     ensures blocks { IfOk result (λ x. blocks_in x ≡ None) }
@@ -83,7 +83,7 @@ fn prepare_inter<W: Workers>(
 ) -> Result<Prepared, NoMemory>
     requires shared { W.are_shared workers.now }
     requires asked { CanBeCoded asked.now }
-    requires as_many_samples { IsWhole asked.now.source.now }
+    requires as_many_samples { IsWholePicture asked.now.source.now }
     requires inter { is_intra asked.now.planned.now.code ≡ false }
     requires moving { IsMoving asked.now.settings.now asked.now.refs.now asked.now.planned.now moving }
     requires blocks { IsChosen asked.now.settings.now asked.now.planned.now.code moving.blocks.now }

@@ -3,9 +3,10 @@
 ghost use Rattle.std.specs.Prelude.{◌≡◌, IfOk, IfSome};
 ghost use Rattle.dirac_picture.specs.Texts.{AreTexts};
 ghost use Rattle.dirac_content.specs.Content.{rebuilt};
-ghost use Rattle.dirac_encode_planes.specs.Analysing.{AreAnalysedPlanes, AreBands, CanBeAnalysed, CanBeQuantised};
+ghost use Rattle.dirac_encode_planes.specs.Analysing.{AreAnalysedPlanes, AreQuantisedBands, CanBeAnalysed};
+ghost use Rattle.dirac_encode_planes.specs.Analysing.{CanBeQuantised};
 ghost use Rattle.dirac_reconstruct.specs.Finishing.{IsFinishable};
-ghost use Rattle.dirac_encode_picture.specs.Predicting.{ArePredicted, CanBePredicted};
+ghost use Rattle.dirac_encode_picture.specs.Predicting.{PlanesArePredicted, CanBePredicted};
 
 use crate::predictions::{Predicting, predict_planes, predict_side_by_side};
 use dirac_common::NoMemory;
@@ -28,7 +29,7 @@ pub(crate) trait Workers {
     fn predict(&self, alloc: Global, from: &Predicting<'_>) -> Result<Predictions, NoMemory>
         requires shared { are_shared self.now }
         requires from { CanBePredicted from.now }
-        ensures { IfOk result (ArePredicted from.now) };
+        ensures { IfOk result (PlanesArePredicted from.now) };
 
     /// The planes of a picture, or what is left of them, analysed.
     fn analyse(&self, alloc: Global, from: &Analysing<'_, '_>) -> Result<AnalysedPlanes, NoMemory>
@@ -40,7 +41,7 @@ pub(crate) trait Workers {
     fn quantise(&self, alloc: Global, from: &Quantising<'_>) -> Result<Planes<PlaneBands>, NoMemory>
         requires shared { are_shared self.now }
         requires from { CanBeQuantised from.now }
-        ensures { IfOk result (AreBands from.now) };
+        ensures { IfOk result (AreQuantisedBands from.now) };
 
     /// Writes the bands of a coded picture, and shows it.
     fn finish(&self, alloc: Global, from: &Finishing<'_>) -> Result<Finished, NoMemory>

@@ -21,10 +21,10 @@ pub record AreAnalysed (x : Transform) (kind : Kind) (of_y of_u of_v : Table) (a
   pub v : IsAnalysed x kind of_v a.v
 
 -- the analysis of one plane
-abbrev pub analysis_of : AnalysedPlanes → Component → Analysis
-analysis_of a component.Y = a.y
-analysis_of a component.U = a.u
-analysis_of a component.V = a.v
+abbrev pub component_analysis : AnalysedPlanes → Component → Analysis
+component_analysis a component.Y = a.y
+component_analysis a component.U = a.u
+component_analysis a component.V = a.v
 
 -- planes of that many levels that can be quantised
 pub record AreQuantisablePlanes (depth : ℕ) (a : AnalysedPlanes) : Type 0 where

@@ -15,7 +15,7 @@ use Rattle.dirac_encode_planes.specs.declared.predictions.Predictions.{Predictio
 use Rattle.dirac_encode_planes.specs.declared.residual.AnalysedPlanes.{AnalysedPlanes}
 use Rattle.dirac_encode_planes.specs.declared.residual.Analysing.{Analysing}
 use Rattle.dirac_encode_planes.specs.declared.residual.Quantising.{Quantising}
-use Rattle.dirac_encode_planes.specs.Analyses.{AreAnalysed, AreQuantisablePlanes, analysis_of}
+use Rattle.dirac_encode_planes.specs.Analyses.{AreAnalysed, AreQuantisablePlanes, component_analysis}
 use Rattle.dirac_encode_planes.specs.Predictions.{IsCodableSource, IsPicturePredictedBy, less_values, values_of}
 
 -- planes with predictions are those of an inter picture
@@ -57,10 +57,10 @@ pub record CanBeQuantised (f : Quantising) : Type 0 where
 
 -- the subbands of one of them, quantised
 abbrev pub bands_in : Quantising → Component → List CodedBand
-bands_in f component = quantised f.kind f.transform.now f.finer f.index (analysis_of f.planes.now component)
+bands_in f component = quantised f.kind f.transform.now f.finer f.index (component_analysis f.planes.now component)
 
 -- those of all three
-pub record AreBands (f : Quantising) (ps : Planes (List CodedBand)) : Type 0 where
+pub record AreQuantisedBands (f : Quantising) (ps : Planes (List CodedBand)) : Type 0 where
   pub y : ps.y ≡ bands_in f component.Y
   pub u : ps.u ≡ bands_in f component.U
   pub v : ps.v ≡ bands_in f component.V

@@ -5,7 +5,8 @@ ghost use Rattle.dirac_common.specs.declared.formats.Kind.TheVariants.{Inter, In
 ghost use Rattle.dirac_common.specs.Limits.{IsEncodedDepth, IsWavelet};
 ghost use Rattle.dirac_analysis.specs.Fits.{AreDifferences};
 ghost use Rattle.dirac_encode_planes.specs.Analyses.{IsAnalysed};
-ghost use Rattle.dirac_encode_planes.specs.Analysing.{AreAnalysedPlanes, AreBands, CanBeAnalysed, CanBeQuantised};
+ghost use Rattle.dirac_encode_planes.specs.Analysing.{AreAnalysedPlanes, AreQuantisedBands, CanBeAnalysed};
+ghost use Rattle.dirac_encode_planes.specs.Analysing.{CanBeQuantised};
 ghost use Rattle.dirac_encode_planes.specs.Analysing.{bands_in};
 ghost use Rattle.dirac_encode_planes.specs.Analysing.{kind_in, plane_in};
 ghost use Rattle.dirac_encode_planes.specs.Predictions.{IsCodablePlane, IsPredictedBy, less_values};
@@ -177,7 +178,7 @@ fn quantise_component(
 /// The subbands of the planes, quantised.
 pub fn quantise_planes(alloc: Global, from: &Quantising<'_>) -> Result<Planes<PlaneBands>, NoMemory>
     requires { CanBeQuantised from.now }
-    ensures { IfOk result (AreBands from.now) }
+    ensures { IfOk result (AreQuantisedBands from.now) }
 {
     let y = quantise_component(alloc, from, Component::Y)?;
     let u = quantise_component(alloc, from, Component::U)?;
@@ -193,7 +194,7 @@ pub fn quantise_side_by_side<R: Threads + Sync>(
     workers: u32,
 ) -> Result<Planes<PlaneBands>, NoMemory>
     requires { CanBeQuantised from.now }
-    ensures { IfOk result (AreBands from.now) }
+    ensures { IfOk result (AreQuantisedBands from.now) }
 {
     let work = |component: Component| -> Result<PlaneBands, NoMemory>
         requires { CanBeQuantised from.now }

@@ -3,7 +3,7 @@ use Rattle.std.proofs.Common.{◌≡◌, ℕ, ◌+◌, ◌<◌, ◌≤◌, ◌^�
 use Rattle.std.specs.Prelude.{min}
 use Rattle.std.proofs.lemmas.List.{length-take-le}
 use Rattle.dirac_io.specs.Reading.{GivesFront}
-use Rattle.dirac_io.specs.Memory.{left_of}
+use Rattle.dirac_io.specs.Memory.{count_left}
 use Rattle.dirac_io.proofs.Parts.{copied_front}
 use Rattle.dirac_types.specs.declared.settings.Settings.{Settings}
 use Rattle.dirac_types.specs.Settings.{IsAccepted}
@@ -26,7 +26,7 @@ held_bounded t items from count number is size fits =
 
 pub gives : (n from : ℕ) (items tail before rest copied buf : List ℕ) → drop from items ++ tail ≡ before → rest ≡ drop from items → 0 < length buf → 0 < length rest → length (drop from items ++ tail) < 2 ^ 63
     → n ≡ min (length buf) (length rest) → copied ≡ take n rest
-    → GivesFront n (copied ++ drop n buf) (Some before) (Some (drop (from + n) items ++ tail)) (left_of before) (left_of (drop (from + n) items ++ tail))
+    → GivesFront n (copied ++ drop n buf) (Some before) (Some (drop (from + n) items ++ tail)) (count_left before) (count_left (drop (from + n) items ++ tail))
 gives n from items tail before rest copied buf is_before is_rest some_room some_rest bounded is_n is_copied =
     let same : length rest ≡ length (drop from items) = ap length is_rest in
     let within : n ≤ length (drop from items) = omega arith in

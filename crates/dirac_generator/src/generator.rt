@@ -1,5 +1,5 @@
 ghost use Rattle.std.specs.Prelude.{◌≡◌, ℕ, ◌+◌, ◌<◌, ◌≤◌, ◌^◌, [], Some, IfOk, length};
-ghost use Rattle.dirac_io.specs.Memory.{left_of, left_of_fits};
+ghost use Rattle.dirac_io.specs.Memory.{count_left, left_of_fits};
 ghost use Rattle.dirac_io.specs.Reading.{IfBytes, GivesFront, MeetsEnd};
 ghost use Rattle.dirac_types.specs.Settings.{IsAccepted};
 ghost use Rattle.dirac_generator.specs.Generated.{generated_from};
@@ -80,7 +80,7 @@ impl Source for Generator {
 
     ghost faults = { λ _. 0 };
 
-    ghost left = { λ g. left_of (held_by g) };
+    ghost left = { λ g. count_left (held_by g) };
 
     ghost left_fits = { λ g. left_of_fits (held_by g) };
 
@@ -89,11 +89,11 @@ impl Source for Generator {
     fn read(&mut self, buf: &mut [u8]) -> Got
         requires { 0 < length buf.old }
         ensures bytes { IfBytes result (λ n. GivesFront n buf.new (Some (held_by self.old)) (Some (held_by self.new))
-            (left_of (held_by self.old)) (left_of (held_by self.new))) }
+            (count_left (held_by self.old)) (count_left (held_by self.new))) }
         ensures end { result ≡ Got.End → MeetsEnd (Some (held_by self.old)) (Some (held_by self.new))
-            0 0 (left_of (held_by self.old)) (left_of (held_by self.new)) }
+            0 0 (count_left (held_by self.old)) (count_left (held_by self.new)) }
         ensures not_failed { result ≡ Got.Failed → 1 ≤ 0 }
-        ensures left { left_of (held_by self.new) ≤ left_of (held_by self.old) }
+        ensures left { count_left (held_by self.new) ≤ count_left (held_by self.old) }
     {
         self.refill();
         let rest = &self.bytes[self.from..];

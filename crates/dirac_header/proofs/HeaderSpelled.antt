@@ -12,7 +12,7 @@ use Rattle.dirac_bits.specs.Writing.{gap}
 use Rattle.dirac_header.specs.declared.header.PictureHeader.{PictureHeader}
 use Rattle.dirac_header.specs.Codes.{is_reference, references_of}
 use Rattle.dirac_header.specs.Header.{moved_by, retired_by, reference, retirement, header}
-use Rattle.dirac_header.specs.Written.{centred, offset_to, reference_bits, retirement_bits, header_bits, IsInRange, HasReferences, MayRetire}
+use Rattle.dirac_header.specs.Written.{centred, offset_to, reference_bits, retirement_bits, header_bits, NumbersHave32Bits, HasReferences, MayRetire}
 use Rattle.dirac_bits.proofs.Fields.{spells_then, spells_last, gap_length}
 
 -- the two halves of the numbers modulo 2 ^ 32
@@ -80,7 +80,7 @@ retirement_spelled false number (Some r) k small fits may =
     let never : false ≡ true = may.0 in
     absurd cc
 
-fields_spelled : (before : List Bool) (code : ℕ) (h : PictureHeader) → IsInRange h → HasReferences code h → MayRetire (is_reference code) h.number h.retire
+fields_spelled : (before : List Bool) (code : ℕ) (h : PictureHeader) → NumbersHave32Bits h → HasReferences code h → MayRetire (is_reference code) h.number h.retire
     → Spells (header code) h (length before) (header_bits before code h)
 unfolding header
 fields_spelled before code h range has may =
@@ -103,6 +103,6 @@ fields_spelled before code h range has may =
     (gap before, number ++ (bits1 ++ (bits2 ++ bits3)), gap_length before, parts, (h.number, bits1 ++ (bits2 ++ bits3), range.number, refl, three))
 
 -- the bits behind others, spelled
-pub header_spelled : (before after : List Bool) (code : ℕ) (h : PictureHeader) → IsInRange h → HasReferences code h → MayRetire (is_reference code) h.number h.retire
+pub header_spelled : (before after : List Bool) (code : ℕ) (h : PictureHeader) → NumbersHave32Bits h → HasReferences code h → MayRetire (is_reference code) h.number h.retire
     → after ≡ before ++ header_bits before code h → SpelledBehind (header code) h before after
 header_spelled before after code h range has may e = record { bits = header_bits before code h; is = e; spells = fields_spelled before code h range has may }

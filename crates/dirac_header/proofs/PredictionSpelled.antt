@@ -10,7 +10,7 @@ use Rattle.dirac_bits.specs.Writing.{gap}
 use Rattle.dirac_header.specs.declared.prediction.Prediction.{Prediction}
 use Rattle.dirac_header.specs.declared.prediction.Weights.{Weights}
 use Rattle.dirac_header.specs.Codes.{references_of}
-use Rattle.dirac_header.specs.Prediction.{grid_of, block_grid, vector_precision, modes, weights, weighted, prediction}
+use Rattle.dirac_header.specs.Prediction.{grid_of, block_grid, vector_precision, modes, weights, prediction_with, prediction}
 use Rattle.dirac_header.specs.Written.{default_weights, prediction_of, prediction_bits, PredictionBehind}
 use Rattle.dirac_bits.proofs.Fields.{spells_then, spells_last, field_spelled, between_is, gap_length}
 
@@ -44,7 +44,7 @@ parameters_spelled before code chroma blocks precision low high small =
     let two = references_of code == 2 in
     let no_modes : List Bool = false ∷ uint 0 in
     let no_weights : List Bool = false ∷ [] in
-    let make : BlockGrid → ℕ → Weights → Syntax Prediction = λ grid n w. done (weighted grid n w) in
+    let make : BlockGrid → ℕ → Weights → Syntax Prediction = λ grid n w. done (prediction_with grid n w) in
     let third : BlockGrid → ℕ → Unit {0} → Syntax Prediction = λ grid n none. weights two >>= make grid n in
     let second : BlockGrid → ℕ → Syntax Prediction = λ grid n. modes >>= third grid n in
     let first : BlockGrid → Syntax Prediction = λ grid. vector_precision >>= second grid in

@@ -9,12 +9,12 @@ use Rattle.dirac_common.specs.declared.faults.Cause.TheVariants.{Wavelet, Depth,
 use Rattle.dirac_common.specs.Numbers.{uint}
 use Rattle.dirac_bits.specs.Fronts.{HoldsFront}
 use Rattle.dirac_bits.specs.Spelling.{Spells}
-use Rattle.dirac_bits.specs.Syntax.{Syntax, done, ◌>>=◌, field, between}
+use Rattle.dirac_bits.specs.Syntax.{Syntax, done, ◌>>=◌, number_field, between}
 use Rattle.dirac_bands.specs.Geometry.{padded_size, band_length}
 use Rattle.dirac_header.specs.declared.transform.Partition.{Partition}
 use Rattle.dirac_header.specs.declared.transform.Transform.{Transform}
 use Rattle.dirac_header.specs.Transform.{level_counts, counts_behind, partition, undivided, codeblocks, transform}
-use Rattle.dirac_header.specs.Written.{counts_bits, is_above_one, is_divided, is_parted, partition_bits, codeblock_bits, transform_bits, IsTransform, FitFrom, TransformBehind}
+use Rattle.dirac_header.specs.Written.{counts_bits, is_above_one, is_divided, partition_flag, partition_bits, codeblock_bits, transform_bits, IsWritableTransform, FitFrom, TransformBehind}
 use Rattle.dirac_header.proofs.Sizes.{band_small}
 use Rattle.dirac_bits.proofs.Fronts.{further_stand}
 use Rattle.dirac_bits.proofs.Fields.{spells_then, spells_last, field_spelled, between_is}
@@ -43,12 +43,12 @@ level_spelled width height depth level across down k size some columns rows =
     let first = band_fits width depth level size.columns size.some size.few in
     let second = band_fits height depth level size.rows size.some size.few in
     let pair : ℕ → ℕ → Syntax (ℕ × ℕ) = λ a b. done (a, b) in
-    let next : ℕ → Syntax (ℕ × ℕ) = λ a. field Codeblocks (between 1 (band_length height depth level)) >>= pair a in
+    let next : ℕ → Syntax (ℕ × ℕ) = λ a. number_field Codeblocks (between 1 (band_length height depth level)) >>= pair a in
     let k1 = k + length (uint across) in
     let rows_spelled = field_spelled Codeblocks (between 1 (band_length height depth level)) down k1 (omega arith) (between_is 1 (band_length height depth level) down some.1 rows) in
     let last : Spells (next across) (across, down) k1 (uint down) =
-    spells_last (field Codeblocks (between 1 (band_length height depth level))) (pair across) down (across, down) k1 (uint down) rows_spelled (refl, refl) in
-    spells_then (field Codeblocks (between 1 (band_length width depth level))) next across (across, down) k (uint across) (uint down)
+    spells_last (number_field Codeblocks (between 1 (band_length height depth level))) (pair across) down (across, down) k1 (uint down) rows_spelled (refl, refl) in
+    spells_then (number_field Codeblocks (between 1 (band_length width depth level))) next across (across, down) k (uint across) (uint down)
     (field_spelled Codeblocks (between 1 (band_length width depth level)) across k (omega arith) (between_is 1 (band_length width depth level) across some.0 columns)) last
 
 counts_spelled : (width height depth : ℕ) (before counts : List (ℕ × ℕ)) (k : ℕ) → IsSize width height depth → AllByRecursion (λ c. (1 ≤ c.0) × (1 ≤ c.1)) counts
@@ -72,11 +72,11 @@ unfolding partition
 partition_spelled width height depth counts mode k size levels some few fit =
     let blocks : Partition = record { counts = counts; mode = mode } in
     let make : List (ℕ × ℕ) → ℕ → Syntax Partition = λ all n. done (record { counts = all; mode = n }) in
-    let behind : List (ℕ × ℕ) → Syntax Partition = λ all. field CodeblockMode (between 0 1) >>= make all in
+    let behind : List (ℕ × ℕ) → Syntax Partition = λ all. number_field CodeblockMode (between 0 1) >>= make all in
     let k1 = k + length (counts_bits counts) in
     let all = counts_spelled width height depth [] counts k size some fit in
     let mode_field = field_spelled CodeblockMode (between 0 1) mode k1 (omega arith) (between_is 0 1 mode (omega arith) few) in
-    let last : Spells (behind counts) blocks k1 (uint mode) = spells_last (field CodeblockMode (between 0 1)) (make counts) mode blocks k1 (uint mode) mode_field (refl, refl) in
+    let last : Spells (behind counts) blocks k1 (uint mode) = spells_last (number_field CodeblockMode (between 0 1)) (make counts) mode blocks k1 (uint mode) mode_field (refl, refl) in
     spells_then (counts_behind width height depth [] (depth + 1)) behind counts blocks k (counts_bits counts) (uint mode)
     (subst (λ (n : ℕ). Spells (counts_behind width height depth [] n) counts k (counts_bits counts)) levels all) last
 
@@ -99,7 +99,7 @@ all_ones (c ∷ counts) (suc n) levels some one =
     ap₂ (λ (x : ℕ × ℕ) (xs : List (ℕ × ℕ)). x ∷ xs) here others
 
 -- without a flag all counts are 1 and the mode is 0
-undivided_is : (counts : List (ℕ × ℕ)) (mode depth : ℕ) → length counts ≡ depth + 1 → AllByRecursion (λ c. (1 ≤ c.0) × (1 ≤ c.1)) counts → is_parted counts mode ≡ false
+undivided_is : (counts : List (ℕ × ℕ)) (mode depth : ℕ) → length counts ≡ depth + 1 → AllByRecursion (λ c. (1 ≤ c.0) × (1 ≤ c.1)) counts → partition_flag counts mode ≡ false
     → undivided depth ≡ record { counts = counts; mode = mode }
 undivided_is counts mode depth levels some one =
     let parts = or_parts (is_divided counts) (nat_lt 0 mode) one in
@@ -114,7 +114,7 @@ unfolding codeblocks
 codeblocks_spelled width height depth counts mode k size levels some few fit =
     let blocks : Partition = record { counts = counts; mode = mode } in
     let bits : Bool → List Bool = λ t. (t ∷ []) ++ partition_bits t counts mode in
-    elim (cases_Bool (is_parted counts mode)) [
+    elim (cases_Bool (partition_flag counts mode)) [
       | inl parted ↦
           subst (λ (t : Bool). Spells (codeblocks width height depth) blocks k (bits t)) (sym parted)
           (true, counts_bits counts ++ uint mode, refl, partition_spelled width height depth counts mode (k + 1) size levels some few fit)
@@ -122,14 +122,14 @@ codeblocks_spelled width height depth counts mode k size levels some few fit =
           subst (λ (t : Bool). Spells (codeblocks width height depth) blocks k (bits t)) (sym one) (false, [], refl, (undivided_is counts mode depth levels some one, refl))
     ]
 
-fields_spelled : (width height : ℕ) (t : Transform) (k : ℕ) → IsTransform t → width < 2 ^ 32 → height < 2 ^ 32 → FitFrom width height t.depth 0 t.counts → Spells (transform width height) t k (transform_bits t)
+fields_spelled : (width height : ℕ) (t : Transform) (k : ℕ) → IsWritableTransform t → width < 2 ^ 32 → height < 2 ^ 32 → FitFrom width height t.depth 0 t.counts → Spells (transform width height) t k (transform_bits t)
 unfolding transform
 fields_spelled width height t k is columns rows fit =
     let size : IsSize width height t.depth = record { columns = columns; rows = rows; some = is.at_least_1; few = is.at_most_5 } in
     let blocks : Partition = record { counts = t.counts; mode = t.mode } in
     let make : ℕ → ℕ → Partition → Syntax Transform = λ wavelet depth b. done (record { wavelet = wavelet; depth = depth; counts = b.counts; mode = b.mode }) in
     let second : ℕ → ℕ → Syntax Transform = λ wavelet depth. codeblocks width height depth >>= make wavelet depth in
-    let first : ℕ → Syntax Transform = λ wavelet. field Depth (between 1 5) >>= second wavelet in
+    let first : ℕ → Syntax Transform = λ wavelet. number_field Depth (between 1 5) >>= second wavelet in
     let behind = codeblock_bits t.counts t.mode in
     let k1 = k + length (uint t.wavelet) in
     let k2 = k1 + length (uint t.depth) in
@@ -138,14 +138,14 @@ fields_spelled width height t k is columns rows fit =
     spells_last (codeblocks width height t.depth) (make t.wavelet t.depth) blocks t k2 behind all (refl, refl) in
     let depth = field_spelled Depth (between 1 5) t.depth k1 (omega (arith, is.at_most_5)) (between_is 1 5 t.depth is.at_least_1 is.at_most_5) in
     let two : Spells (first t.wavelet) t k1 (uint t.depth ++ behind) =
-    spells_then (field Depth (between 1 5)) (second t.wavelet) t.depth t k1 (uint t.depth) behind depth last in
+    spells_then (number_field Depth (between 1 5)) (second t.wavelet) t.depth t k1 (uint t.depth) behind depth last in
     let wavelet = field_spelled Wavelet (between 0 6) t.wavelet k (omega (arith, is.wavelet)) (between_is 0 6 t.wavelet (omega arith) is.wavelet) in
-    let all_bits = spells_then (field Wavelet (between 0 6)) first t.wavelet t k (uint t.wavelet) (uint t.depth ++ behind) wavelet two in
+    let all_bits = spells_then (number_field Wavelet (between 0 6)) first t.wavelet t k (uint t.wavelet) (uint t.depth ++ behind) wavelet two in
     let parts : uint t.wavelet ++ (uint t.depth ++ behind) ≡ transform_bits t = sym (append_assoc (uint t.wavelet) (uint t.depth) behind) in
     subst (λ (l : List Bool). Spells (transform width height) t k l) parts all_bits
 
 -- the bits behind others, spelled
-pub transform_spelled : (before after : List Bool) (t : Transform) → IsTransform t → after ≡ before ++ transform_bits t → TransformBehind t before after
+pub transform_spelled : (before after : List Bool) (t : Transform) → IsWritableTransform t → after ≡ before ++ transform_bits t → TransformBehind t before after
 transform_spelled before after t is e width height columns rows fit =
     record { bits = transform_bits t; is = e; spells = fields_spelled width height t (length before) is columns rows fit }
 

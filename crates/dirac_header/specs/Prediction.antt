@@ -4,7 +4,8 @@ use Rattle.dirac_common.specs.declared.faults.Cause.TheVariants.{BlockPreset, Bl
 use Rattle.dirac_common.specs.declared.faults.Cause.TheVariants.{PredictionMode, Weights as WeightRange}
 use Rattle.dirac_common.specs.declared.formats.BlockGrid.{BlockGrid}
 use Rattle.dirac_common.specs.declared.formats.Chroma.{Chroma}
-use Rattle.dirac_bits.specs.Syntax.{Syntax, done, refuse, ◌>>=◌, flag, uint, sint, align, here, field, between, custom}
+use Rattle.dirac_bits.specs.Syntax.{Syntax, done, refuse, ◌>>=◌, flag, uint, sint, align, here, number_field, between}
+use Rattle.dirac_bits.specs.Syntax.{custom}
 use Rattle.dirac_common.specs.Ratios.{ratio_across, ratio_down}
 use Rattle.dirac_header.specs.declared.prediction.Prediction.{Prediction}
 use Rattle.dirac_header.specs.declared.prediction.Weights.{Weights}
@@ -53,7 +54,7 @@ block_grid chroma = do
 
 -- the precision of motion vectors
 unfoldable pub vector_precision : Syntax ℕ
-vector_precision = field Precision (between 0 3)
+vector_precision = number_field Precision (between 0 3)
 
 -- a weight of a reference
 unfoldable pub weight : Syntax ℤ
@@ -69,7 +70,7 @@ second_weight two = if two then weight else done (pos 1)
 -- weights that stand in the picture, with their precision
 unfoldable pub own_weights : Bool → Syntax Weights
 own_weights two = do
-  bits ← field WeightRange (between 1 8)
+  bits ← number_field WeightRange (between 1 8)
   first ← weight
   second ← second_weight two
   done (record { bits = bits; first = first; second = second })
@@ -83,11 +84,11 @@ unfoldable pub modes : Syntax (Unit {0})
 modes = do
   at ← here
   global ← flag
-  if global then refuse at GlobalMotion else (field PredictionMode (between 0 0) >>= λ mode. done tt)
+  if global then refuse at GlobalMotion else (number_field PredictionMode (between 0 0) >>= λ mode. done tt)
 
 -- the parameters with these weights
-abbrev pub weighted : BlockGrid → ℕ → Weights → Prediction
-weighted grid precision weights =
+abbrev pub prediction_with : BlockGrid → ℕ → Weights → Prediction
+prediction_with grid precision weights =
     record {
       grid = grid;
       precision = precision;
@@ -104,4 +105,4 @@ prediction code chroma = do
   precision ← vector_precision
   none ← modes
   weights ← weights (references_of code == 2)
-  done (weighted grid precision weights)
+  done (prediction_with grid precision weights)

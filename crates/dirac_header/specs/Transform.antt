@@ -2,7 +2,7 @@
 use Rattle.std.specs.Prelude.{ℕ, zero, suc, ◌+◌, if◌then◌else◌, List, [], ◌∷◌, ◌++◌, length, replicate}
 use Rattle.dirac_common.specs.declared.limits.TheConstants.{LARGEST_DEPTH, LARGEST_WAVELET}
 use Rattle.dirac_common.specs.declared.faults.Cause.TheVariants.{Wavelet, Depth, Codeblocks, CodeblockMode}
-use Rattle.dirac_bits.specs.Syntax.{Syntax, done, ◌>>=◌, flag, field, between}
+use Rattle.dirac_bits.specs.Syntax.{Syntax, done, ◌>>=◌, flag, number_field, between}
 pub use Rattle.dirac_bands.specs.Geometry.{band_length}
 use Rattle.dirac_header.specs.declared.transform.Partition.{Partition}
 use Rattle.dirac_header.specs.declared.transform.Transform.{Transform}
@@ -10,8 +10,8 @@ use Rattle.dirac_header.specs.declared.transform.Transform.{Transform}
 -- the counts of codeblocks of one level, across and down, at most as many as its luma bands have columns and rows
 unfoldable pub level_counts : ℕ → ℕ → ℕ → ℕ → Syntax (ℕ × ℕ)
 level_counts width height depth level = do
-  across ← field Codeblocks (between 1 (band_length width depth level))
-  down ← field Codeblocks (between 1 (band_length height depth level))
+  across ← number_field Codeblocks (between 1 (band_length width depth level))
+  down ← number_field Codeblocks (between 1 (band_length height depth level))
   done (across, down)
 
 -- the counts of the levels from 0 on: those of the levels before, and that many more
@@ -25,7 +25,7 @@ counts_behind width height depth before (suc more) = do
 unfoldable pub partition : ℕ → ℕ → ℕ → Syntax Partition
 partition width height depth = do
   counts ← counts_behind width height depth [] (depth + 1)
-  mode ← field CodeblockMode (between 0 1)
+  mode ← number_field CodeblockMode (between 0 1)
   done (record { counts = counts; mode = mode })
 
 -- one codeblock a band, and mode 0
@@ -41,7 +41,7 @@ codeblocks width height depth = do
 -- the transform parameters of a picture of this size in luma samples
 unfoldable pub transform : ℕ → ℕ → Syntax Transform
 transform width height = do
-  wavelet ← field Wavelet (between 0 LARGEST_WAVELET)
-  depth ← field Depth (between 1 LARGEST_DEPTH)
+  wavelet ← number_field Wavelet (between 0 LARGEST_WAVELET)
+  depth ← number_field Depth (between 1 LARGEST_DEPTH)
   blocks ← codeblocks width height depth
   done (record { wavelet = wavelet; depth = depth; counts = blocks.counts; mode = blocks.mode })

@@ -14,7 +14,7 @@ use Rattle.dirac_header.specs.declared.prediction.Prediction.{Prediction}
 use Rattle.dirac_header.specs.declared.prediction.Weights.{Weights}
 use Rattle.dirac_header.specs.declared.transform.Transform.{Transform}
 use Rattle.dirac_header.specs.Codes.{is_reference, references_of}
-use Rattle.dirac_header.specs.Prediction.{grid_of, weighted, prediction}
+use Rattle.dirac_header.specs.Prediction.{grid_of, prediction_with, prediction}
 use Rattle.dirac_header.specs.Transform.{transform}
 
 -- a number modulo 2 ^ 32, as one from - 2 ^ 31 to 2 ^ 31 - 1
@@ -46,7 +46,7 @@ header_bits before code h =
     ++ retirement_bits (is_reference code) h.number h.retire
 
 -- the numbers of pictures are below 2 ^ 32
-pub record IsInRange (h : PictureHeader) : Type 0 where
+pub record NumbersHave32Bits (h : PictureHeader) : Type 0 where
   pub number : h.number < 2 ^ 32
   pub first : IfSome h.ref1 (λ n. n < 2 ^ 32)
   pub second : IfSome h.ref2 (λ n. n < 2 ^ 32)
@@ -77,8 +77,8 @@ is_divided [] = false
 is_divided (c ∷ counts) = is_above_one c.0 c.1 || is_divided counts
 
 -- the partition flag: some level has more than one codeblock, or the codeblock mode isn't 0
-abbrev pub is_parted : List (ℕ × ℕ) → ℕ → Bool
-is_parted counts mode = is_divided counts || nat_lt 0 mode
+abbrev pub partition_flag : List (ℕ × ℕ) → ℕ → Bool
+partition_flag counts mode = is_divided counts || nat_lt 0 mode
 
 -- where the partition flag is set, the counts and the codeblock mode
 abbrev pub partition_bits : Bool → List (ℕ × ℕ) → ℕ → List Bool
@@ -86,14 +86,15 @@ partition_bits parted counts mode = if parted then counts_bits counts ++ numbers
 
 -- the partition flag and what stands behind it
 abbrev pub codeblock_bits : List (ℕ × ℕ) → ℕ → List Bool
-codeblock_bits counts mode = (is_parted counts mode ∷ []) ++ partition_bits (is_parted counts mode) counts mode
+codeblock_bits counts mode =
+    (partition_flag counts mode ∷ []) ++ partition_bits (partition_flag counts mode) counts mode
 
 -- transform parameters
 abbrev pub transform_bits : Transform → List Bool
 transform_bits t = numbers.uint t.wavelet ++ numbers.uint t.depth ++ codeblock_bits t.counts t.mode
 
 -- transform parameters that can be written
-pub record IsTransform (t : Transform) : Type 0 where
+pub record IsWritableTransform (t : Transform) : Type 0 where
   pub wavelet : IsWavelet t.wavelet
   pub at_least_1 : 1 ≤ t.depth
   pub at_most_5 : t.depth ≤ 5
@@ -120,7 +121,7 @@ default_weights = record { bits = 1; first = pos 1; second = pos 1 }
 
 -- the prediction parameters of the encoder
 abbrev pub prediction_of : ℕ → ℕ → Prediction
-prediction_of blocks precision = weighted (grid_of blocks) precision default_weights
+prediction_of blocks precision = prediction_with (grid_of blocks) precision default_weights
 
 -- these parameters behind the bits `before`: the block index, the precision, no global motion, mode 0, no custom
 -- weights

@@ -1,7 +1,7 @@
 ghost use Rattle.std.specs.Prelude.{◌≡◌, ℕ, ◌≤◌, ◌<◌, ◌^◌, IfOk, IfErr, Ok, length, unsigned_abs};
 ghost use Rattle.dirac_bits.specs.Cursor.{Cursor};
 ghost use Rattle.dirac_bits.specs.Syntax.{read};
-ghost use Rattle.dirac_bits.specs.Answers.{Reads};
+ghost use Rattle.dirac_bits.specs.Answers.{ReadsSeenBy};
 ghost use Rattle.dirac_bits.specs.Laws.{BeginsWith};
 ghost use Rattle.dirac_header.specs.declared.header.PictureHeader.{PictureHeader as TheHeader};
 ghost use Rattle.dirac_header.specs.Header as grammar;
@@ -25,7 +25,7 @@ pub struct PictureHeader {
 /// The header of a picture with this parse code: picture header, Dirac specification, section 11. The bits up to the
 /// next byte are passed over first.
 pub fn read_header(r: &mut BitReader<'_>, code: u8) -> Result<PictureHeader, Refusal>
-    ensures value { Reads (λ h. h) result r.new (read (grammar.header code) r.old) }
+    ensures value { ReadsSeenBy (λ h. h) result r.new (read (grammar.header code) r.old) }
     // What is answered is spelled by the bits left.
     ensures spelled { IfOk result (λ h. BeginsWith (grammar.header code) h r.old r.new) }
     // What they spell is answered.
@@ -40,7 +40,7 @@ pub fn read_header(r: &mut BitReader<'_>, code: u8) -> Result<PictureHeader, Ref
 
 #[tactic(auto, unfolding(crate::specs::Header::header), using(dirac_bits::specs::Then::read_then))]
 fn read_fields(r: &mut BitReader<'_>, code: u8) -> Result<PictureHeader, Refusal>
-    ensures value { Reads (λ h. h) result r.new (read (grammar.header code) r.old) }
+    ensures value { ReadsSeenBy (λ h. h) result r.new (read (grammar.header code) r.old) }
     ensures place_inside { IfErr result (λ e. e.at ≤ length r.old.bytes) }
     ensures kept { r.new.bytes ≡ r.old.bytes }
 {
@@ -60,7 +60,7 @@ fn read_fields(r: &mut BitReader<'_>, code: u8) -> Result<PictureHeader, Refusal
 
 #[tactic(auto, unfolding(crate::specs::Header::reference))]
 fn read_reference(r: &mut BitReader<'_>, there: bool, number: u32) -> Result<Option<u32>, Refusal>
-    ensures value { Reads (λ x. x) result r.new (read (grammar.reference there number) r.old) }
+    ensures value { ReadsSeenBy (λ x. x) result r.new (read (grammar.reference there number) r.old) }
     ensures place_inside { IfErr result (λ e. e.at ≤ length r.old.bytes) }
     ensures kept { r.new.bytes ≡ r.old.bytes }
 {
@@ -73,7 +73,7 @@ fn read_reference(r: &mut BitReader<'_>, there: bool, number: u32) -> Result<Opt
 
 #[tactic(auto, unfolding(crate::specs::Header::retirement))]
 fn read_retirement(r: &mut BitReader<'_>, there: bool, number: u32) -> Result<Option<u32>, Refusal>
-    ensures value { Reads (λ x. x) result r.new (read (grammar.retirement there number) r.old) }
+    ensures value { ReadsSeenBy (λ x. x) result r.new (read (grammar.retirement there number) r.old) }
     ensures place_inside { IfErr result (λ e. e.at ≤ length r.old.bytes) }
     ensures kept { r.new.bytes ≡ r.old.bytes }
 {

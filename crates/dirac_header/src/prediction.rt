@@ -1,7 +1,7 @@
 ghost use Rattle.std.specs.Prelude.{◌≡◌, ℕ, ◌≤◌, ◌<◌, IfOk, IfErr, IsTrue, Ok, length, unsigned_abs};
 ghost use Rattle.dirac_bits.specs.Cursor.{Cursor};
 ghost use Rattle.dirac_bits.specs.Syntax.{read};
-ghost use Rattle.dirac_bits.specs.Answers.{Reads};
+ghost use Rattle.dirac_bits.specs.Answers.{ReadsSeenBy};
 ghost use Rattle.dirac_bits.specs.Laws.{BeginsWith};
 ghost use Rattle.dirac_header.specs.declared.prediction.Prediction.{Prediction as ThePrediction};
 ghost use Rattle.dirac_common.specs.declared.formats.Chroma.{Chroma as TheChroma};
@@ -42,7 +42,7 @@ pub fn read_prediction(
     code: u8,
     chroma: Chroma,
 ) -> Result<Prediction, Refusal>
-    ensures value { Reads (λ p. p) result r.new (read (grammar.prediction code chroma) r.old) }
+    ensures value { ReadsSeenBy (λ p. p) result r.new (read (grammar.prediction code chroma) r.old) }
     // What is answered is spelled by the bits left.
     ensures spelled { IfOk result (λ p. BeginsWith (grammar.prediction code chroma) p r.old r.new) }
     // What they spell is answered.
@@ -61,7 +61,7 @@ pub fn read_prediction(
 
 #[tactic(auto, unfolding(crate::specs::Prediction::prediction), using(dirac_bits::specs::Then::read_then))]
 fn read_parameters(r: &mut BitReader<'_>, code: u8, chroma: Chroma) -> Result<Prediction, Refusal>
-    ensures value { Reads (λ p. p) result r.new (read (grammar.prediction code chroma) r.old) }
+    ensures value { ReadsSeenBy (λ p. p) result r.new (read (grammar.prediction code chroma) r.old) }
     ensures place_inside { IfErr result (λ e. e.at ≤ length r.old.bytes) }
     ensures kept { r.new.bytes ≡ r.old.bytes }
     ensures grid { IfOk result (λ p. IsTrue (grammar.is_grid chroma p.grid)) }
@@ -78,7 +78,7 @@ fn read_parameters(r: &mut BitReader<'_>, code: u8, chroma: Chroma) -> Result<Pr
 }
 
 fn weighted(grid: BlockGrid, precision: u8, weights: Weights) -> Prediction
-    ensures { result ≡ grammar.weighted grid precision weights }
+    ensures { result ≡ grammar.prediction_with grid precision weights }
 {
     Prediction {
         grid,
@@ -91,7 +91,7 @@ fn weighted(grid: BlockGrid, precision: u8, weights: Weights) -> Prediction
 
 #[tactic(auto, unfolding(crate::specs::Prediction::vector_precision))]
 fn read_vector_precision(r: &mut BitReader<'_>) -> Result<u8, Refusal>
-    ensures value { Reads (λ n. n) result r.new (read grammar.vector_precision r.old) }
+    ensures value { ReadsSeenBy (λ n. n) result r.new (read grammar.vector_precision r.old) }
     ensures place_inside { IfErr result (λ e. e.at ≤ length r.old.bytes) }
     ensures kept { r.new.bytes ≡ r.old.bytes }
     ensures at_most_3 { IfOk result (λ n. n ≤ 3) }
@@ -102,7 +102,7 @@ fn read_vector_precision(r: &mut BitReader<'_>) -> Result<u8, Refusal>
 
 #[tactic(auto, unfolding(crate::specs::Prediction::block_grid), using(dirac_bits::specs::Then::read_then))]
 fn read_block_grid(r: &mut BitReader<'_>, chroma: Chroma) -> Result<BlockGrid, Refusal>
-    ensures value { Reads (λ g. g) result r.new (read (grammar.block_grid chroma) r.old) }
+    ensures value { ReadsSeenBy (λ g. g) result r.new (read (grammar.block_grid chroma) r.old) }
     ensures place_inside { IfErr result (λ e. e.at ≤ length r.old.bytes) }
     ensures kept { r.new.bytes ≡ r.old.bytes }
     ensures grid { IfOk result (λ g. IsTrue (grammar.is_grid chroma g)) }
@@ -142,7 +142,7 @@ pub fn block_grid(index: u64) -> BlockGrid
 
 #[tactic(auto, unfolding(crate::specs::Prediction::own_grid), using(dirac_bits::specs::Then::read_then))]
 fn read_own_grid(r: &mut BitReader<'_>, chroma: Chroma) -> Result<BlockGrid, Refusal>
-    ensures value { Reads (λ g. g) result r.new (read (grammar.own_grid chroma) r.old) }
+    ensures value { ReadsSeenBy (λ g. g) result r.new (read (grammar.own_grid chroma) r.old) }
     ensures place_inside { IfErr result (λ e. e.at ≤ length r.old.bytes) }
     ensures kept { r.new.bytes ≡ r.old.bytes }
     ensures grid { IfOk result (λ g. IsTrue (grammar.is_grid chroma g)) }
@@ -189,7 +189,7 @@ fn is_divisible(ratio: u32, length: u64, separation: u64) -> bool
 
 #[tactic(auto, unfolding(crate::specs::Prediction::modes), using(dirac_bits::specs::Then::read_then))]
 fn read_modes(r: &mut BitReader<'_>) -> Result<(), Refusal>
-    ensures value { Reads (λ x. x) result r.new (read grammar.modes r.old) }
+    ensures value { ReadsSeenBy (λ x. x) result r.new (read grammar.modes r.old) }
     ensures place_inside { IfErr result (λ e. e.at ≤ length r.old.bytes) }
     ensures kept { r.new.bytes ≡ r.old.bytes }
 {
@@ -206,7 +206,7 @@ fn read_modes(r: &mut BitReader<'_>) -> Result<(), Refusal>
 
 #[tactic(auto, unfolding(crate::specs::Prediction::weights), using(dirac_bits::specs::Then::read_then))]
 fn read_weights(r: &mut BitReader<'_>, two: bool) -> Result<Weights, Refusal>
-    ensures value { Reads (λ w. w) result r.new (read (grammar.weights two) r.old) }
+    ensures value { ReadsSeenBy (λ w. w) result r.new (read (grammar.weights two) r.old) }
     ensures place_inside { IfErr result (λ e. e.at ≤ length r.old.bytes) }
     ensures kept { r.new.bytes ≡ r.old.bytes }
     ensures bits { IfOk result (λ w. (1 ≤ w.bits) × (w.bits ≤ 8)) }
@@ -224,7 +224,7 @@ fn read_weights(r: &mut BitReader<'_>, two: bool) -> Result<Weights, Refusal>
 
 #[tactic(auto, unfolding(crate::specs::Prediction::own_weights), using(dirac_bits::specs::Then::read_then))]
 fn read_own_weights(r: &mut BitReader<'_>, two: bool) -> Result<Weights, Refusal>
-    ensures value { Reads (λ w. w) result r.new (read (grammar.own_weights two) r.old) }
+    ensures value { ReadsSeenBy (λ w. w) result r.new (read (grammar.own_weights two) r.old) }
     ensures place_inside { IfErr result (λ e. e.at ≤ length r.old.bytes) }
     ensures kept { r.new.bytes ≡ r.old.bytes }
     ensures bits { IfOk result (λ w. (1 ≤ w.bits) × (w.bits ≤ 8)) }
@@ -242,7 +242,7 @@ fn read_own_weights(r: &mut BitReader<'_>, two: bool) -> Result<Weights, Refusal
 
 #[tactic(auto, unfolding(crate::specs::Prediction::second_weight))]
 fn read_second_weight(r: &mut BitReader<'_>, two: bool) -> Result<i32, Refusal>
-    ensures value { Reads (λ w. w) result r.new (read (grammar.second_weight two) r.old) }
+    ensures value { ReadsSeenBy (λ w. w) result r.new (read (grammar.second_weight two) r.old) }
     ensures place_inside { IfErr result (λ e. e.at ≤ length r.old.bytes) }
     ensures kept { r.new.bytes ≡ r.old.bytes }
     ensures at_most_255 { IfOk result (λ w. unsigned_abs w ≤ 255) }
@@ -252,7 +252,7 @@ fn read_second_weight(r: &mut BitReader<'_>, two: bool) -> Result<i32, Refusal>
 
 #[tactic(auto, unfolding(crate::specs::Prediction::weight))]
 fn read_weight(r: &mut BitReader<'_>) -> Result<i32, Refusal>
-    ensures value { Reads (λ w. w) result r.new (read grammar.weight r.old) }
+    ensures value { ReadsSeenBy (λ w. w) result r.new (read grammar.weight r.old) }
     ensures place_inside { IfErr result (λ e. e.at ≤ length r.old.bytes) }
     ensures kept { r.new.bytes ≡ r.old.bytes }
     ensures at_most_255 { IfOk result (λ w. unsigned_abs w ≤ 255) }

@@ -2,7 +2,7 @@ ghost use Rattle.std.specs.Prelude.{◌≡◌, ℕ, ◌+◌, ◌≤◌, ◌<◌,
 ghost use Rattle.dirac_common.specs.Limits.{IsDepth, IsWavelet};
 ghost use Rattle.dirac_bits.specs.Cursor.{Cursor};
 ghost use Rattle.dirac_bits.specs.Syntax.{read};
-ghost use Rattle.dirac_bits.specs.Answers.{Reads};
+ghost use Rattle.dirac_bits.specs.Answers.{ReadsSeenBy};
 ghost use Rattle.dirac_bits.specs.Laws.{BeginsWith};
 ghost use Rattle.dirac_header.specs.declared.transform.Transform.{Transform as TheTransform};
 ghost use Rattle.dirac_header.specs.Transform as grammar;
@@ -37,7 +37,7 @@ pub struct Partition {
 /// The transform parameters of a picture of `width` by `height` luma samples: transform parameters, Dirac
 /// specification.
 pub fn read_transform(r: &mut BitReader<'_>, width: u32, height: u32) -> Result<Transform, Refusal>
-    ensures value { Reads (λ t. t) result r.new (read (grammar.transform width height) r.old) }
+    ensures value { ReadsSeenBy (λ t. t) result r.new (read (grammar.transform width height) r.old) }
     // What is answered is spelled by the bits left.
     ensures spelled { IfOk result (λ t. BeginsWith (grammar.transform width height) t r.old r.new) }
     // What they spell is answered.
@@ -56,7 +56,7 @@ pub fn read_transform(r: &mut BitReader<'_>, width: u32, height: u32) -> Result<
 
 #[tactic(auto, unfolding(crate::specs::Transform::transform), using(dirac_bits::specs::Then::read_then))]
 fn read_fields(r: &mut BitReader<'_>, width: u32, height: u32) -> Result<Transform, Refusal>
-    ensures value { Reads (λ t. t) result r.new (read (grammar.transform width height) r.old) }
+    ensures value { ReadsSeenBy (λ t. t) result r.new (read (grammar.transform width height) r.old) }
     ensures place_inside { IfErr result (λ e. e.at ≤ length r.old.bytes) }
     ensures kept { r.new.bytes ≡ r.old.bytes }
     ensures wavelet { IfOk result (λ t. IsWavelet t.wavelet) }
@@ -83,7 +83,7 @@ fn read_codeblocks(
     depth: u8,
 ) -> Result<Partition, Refusal>
     requires { IsDepth depth }
-    ensures value { Reads (λ c. c) result r.new (read (grammar.codeblocks width height depth) r.old) }
+    ensures value { ReadsSeenBy (λ c. c) result r.new (read (grammar.codeblocks width height depth) r.old) }
     ensures place_inside { IfErr result (λ e. e.at ≤ length r.old.bytes) }
     ensures kept { r.new.bytes ≡ r.old.bytes }
     ensures levels { IfOk result (λ c. length c.counts ≡ depth + 1) }
@@ -119,7 +119,7 @@ fn read_partition(
     depth: u8,
 ) -> Result<Partition, Refusal>
     requires { IsDepth depth }
-    ensures value { Reads (λ c. c) result r.new (read (grammar.partition width height depth) r.old) }
+    ensures value { ReadsSeenBy (λ c. c) result r.new (read (grammar.partition width height depth) r.old) }
     ensures place_inside { IfErr result (λ e. e.at ≤ length r.old.bytes) }
     ensures kept { r.new.bytes ≡ r.old.bytes }
     ensures levels { IfOk result (λ c. length c.counts ≡ depth + 1) }
@@ -135,7 +135,8 @@ fn read_partition(
 
 fn read_counts(r: &mut BitReader<'_>, width: u32, height: u32, depth: u8) -> Result<Counts, Refusal>
     requires { IsDepth depth }
-    ensures value { Reads (λ c. c) result r.new (read (grammar.counts_behind width height depth [] (depth + 1)) r.old) }
+    ensures value { ReadsSeenBy (λ c. c) result r.new
+        (read (grammar.counts_behind width height depth [] (depth + 1)) r.old) }
     ensures place_inside { IfErr result (λ e. e.at ≤ length r.old.bytes) }
     ensures kept { r.new.bytes ≡ r.old.bytes }
     ensures levels { IfOk result (λ c. length c ≡ depth + 1) }
@@ -158,7 +159,7 @@ fn read_level_counts(
 ) -> Result<(u32, u32), Refusal>
     requires depth { IsDepth depth }
     requires level { level ≤ depth }
-    ensures value { Reads (λ x. x) result r.new (read (grammar.level_counts width height depth level) r.old) }
+    ensures value { ReadsSeenBy (λ x. x) result r.new (read (grammar.level_counts width height depth level) r.old) }
     ensures place_inside { IfErr result (λ e. e.at ≤ length r.old.bytes) }
     ensures kept { r.new.bytes ≡ r.old.bytes }
 {

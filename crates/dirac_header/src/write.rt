@@ -31,7 +31,7 @@ pub fn write_header(w: &mut BitWriter, header: &PictureHeader, code: u8) -> Resu
 fn write_fields(w: &mut BitWriter, header: PictureHeader, code: u8) -> Result<(), NoMemory>
     ensures exact { OnOk result (w.new ≡ w.old ++ written.header_bits w.old code header) }
     ensures front { OnErr result (HoldsFront w.old w.new (w.old ++ written.header_bits w.old code header)) }
-    ensures range { written.IsInRange header }
+    ensures range { written.NumbersHave32Bits header }
 {
     w.align()?;
     w.literal(header.number)?;
@@ -95,7 +95,7 @@ fn offset_to(from: u32, to: u32) -> i64
 ///
 /// After want of memory what stood before still stands, with a front of these bits behind it.
 pub fn write_transform(w: &mut BitWriter, t: &Transform) -> Result<(), NoMemory>
-    requires { written.IsTransform t.now }
+    requires { written.IsWritableTransform t.now }
     ensures exact { OnOk result (w.new ≡ w.old ++ written.transform_bits t.now) }
     ensures front { OnErr result (HoldsFront w.old w.new (w.old ++ written.transform_bits t.now)) }
     // These bits spell the parameters.
@@ -143,7 +143,7 @@ fn write_partition(
 
 /// The partition flag of these counts and this codeblock mode.
 fn is_parted(counts: &Counts, mode: u8) -> bool
-    ensures { result ≡ written.is_parted counts.now mode }
+    ensures { result ≡ written.partition_flag counts.now mode }
 {
     is_divided(counts) || mode > 0
 }

@@ -7,7 +7,7 @@ use Rattle.std.proofs.lemmas.Int.{ints, unsigned_abs-mul}
 use Rattle.std.proofs.lemmas.Nat.{mul-le}
 use Rattle.dirac_common.specs.declared.formats.Vector.{Vector}
 use Rattle.dirac_inside.specs.Inside.{all_below, has_sample, holds, is_inside, plane_keeps, position, sample_keeps}
-use Rattle.dirac_inside.specs.Ranges.{ArePlaces, IsSpan, is_in}
+use Rattle.dirac_inside.specs.Ranges.{ArePlaces, IsComponentSpan, is_in}
 use Rattle.dirac_inside.specs.declared.picture_blocks.PictureBlocks.{PictureBlocks}
 use Rattle.dirac_inside.specs.declared.range.VectorRange.{VectorRange}
 use Rattle.dirac_inside.proofs.Below.{all_from, all_tells, both_from, both_tells, le_from, le_tells, same_test}
@@ -53,12 +53,12 @@ none_keeps p across down q i j left right top bottom v are none =
     absurd (none (omega (arith, column.0, column.1)) (omega (arith, row.0, row.1))))
 
 -- a component between two numbers
-between_tells : (least most v : ℤ) (q ratio size first end : ℕ) → IsSpan q ratio size first end least most → (int_le least v && int_le v most) ≡ true → LiesIn q ratio size first end v
+between_tells : (least most v : ℤ) (q ratio size first end : ℕ) → IsComponentSpan q ratio size first end least most → (int_le least v && int_le v most) ≡ true → LiesIn q ratio size first end v
 between_tells least most v q ratio size first end is e =
     let are = both_tells least v v most e in
     record { least = subst (λ (z : ℤ). z ≤ℤ v) is.back are.0; most = subst (λ (z : ℤ). v ≤ℤ z) is.on are.1 }
 
-between_from : (least most v : ℤ) (q ratio size first end : ℕ) → IsSpan q ratio size first end least most → LiesIn q ratio size first end v → (int_le least v && int_le v most) ≡ true
+between_from : (least most v : ℤ) (q ratio size first end : ℕ) → IsComponentSpan q ratio size first end least most → LiesIn q ratio size first end v → (int_le least v && int_le v most) ≡ true
 between_from least most v q ratio size first end is lies =
     both_from least v v most (subst (λ (z : ℤ). z ≤ℤ v) (sym is.back) lies.least) (subst (λ (z : ℤ). v ≤ℤ z) (sym is.on) lies.most)
 
@@ -71,7 +71,7 @@ pub record IsFine (a d q : ℕ) : Type 0 where
 -- where there are some, those keep inside that lie in the range
 pub some_keep : (p : PictureBlocks) (across down q i j left right top bottom : ℕ) (r : VectorRange) (v : Vector) → IsFine across down q → AreBlockPlaces p across down i j left right top bottom
     → left < right → top < bottom → right ≤ p.width / across → bottom ≤ p.height / down
-    → IsSpan q across (p.width / across) left right r.left r.right → IsSpan q down (p.height / down) top bottom r.top r.bottom → is_in r v ≡ plane_keeps p across down q i j v
+    → IsComponentSpan q across (p.width / across) left right r.left r.right → IsComponentSpan q down (p.height / down) top bottom r.top r.bottom → is_in r v ≡ plane_keeps p across down q i j v
 some_keep p across down q i j left right top bottom r v fine are some_columns some_rows fits_across fits_down columns rows =
     same_test (is_in r v) (plane_keeps p across down q i j v) tells from
   where

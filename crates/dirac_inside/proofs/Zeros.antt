@@ -5,7 +5,7 @@ use Rattle.std.proofs.lemmas.Bool.{and_from}
 use Rattle.std.proofs.lemmas.Int.{ints}
 use Rattle.std.proofs.lemmas.Nat.{mul-le}
 use Rattle.dirac_common.specs.declared.formats.Vector.{Vector}
-use Rattle.dirac_inside.specs.Inside.{is_inside, keeps_inside, plane_keeps, position, times}
+use Rattle.dirac_inside.specs.Inside.{is_inside, keeps_inside, plane_keeps, position, vector_times}
 use Rattle.dirac_inside.specs.Ranges.{AreBlocks}
 use Rattle.dirac_inside.specs.declared.picture_blocks.PictureBlocks.{PictureBlocks}
 use Rattle.dirac_inside.proofs.Planes.{plane_from}
@@ -41,7 +41,7 @@ times_part : (n : ℕ) → pos n *ℤ pos 0 ≡ pos 0
 times_part n = omega (arith, ints)
 
 -- any number of times
-pub times_zero : (n : ℕ) → times n nowhere ≡ nowhere
+pub times_zero : (n : ℕ) → vector_times n nowhere ≡ nowhere
 times_zero n = ap₂ (λ (a b : ℤ). vector a b) (times_part n) (times_part n) where
   vector : ℤ → ℤ → Vector
   vector a b = record { x = a; y = b }
@@ -50,7 +50,7 @@ one_part : (z : ℤ) → pos 1 *ℤ z ≡ z
 one_part (pos n) = omega (arith, ints)
 one_part (negsuc n) = omega (arith, ints)
 
-pub times_one : (v : Vector) → times 1 v ≡ v
+pub times_one : (v : Vector) → vector_times 1 v ≡ v
 times_one v = ap₂ (λ (a b : ℤ). vector a b) (one_part v.x) (one_part v.y) where
   vector : ℤ → ℤ → Vector
   vector a b = record { x = a; y = b }

@@ -54,5 +54,5 @@ abbrev pub KeepsInside : PictureBlocks → ℕ → ℕ → ℕ → Vector → Ty
 KeepsInside p precision i j v = IsTrue (keeps_inside p precision i j v)
 
 -- a vector that counts as so many times itself
-abbrev pub times : ℕ → Vector → Vector
-times n v = record { x = pos n *ℤ v.x; y = pos n *ℤ v.y }
+abbrev pub vector_times : ℕ → Vector → Vector
+vector_times n v = record { x = pos n *ℤ v.x; y = pos n *ℤ v.y }

@@ -42,7 +42,7 @@ pub record ArePlaces (block len separation size first end : ℕ) : Type 0 where
   pub end_is : end ≡ min (block * separation + (len - (len - separation) / 2)) size
 
 -- from the first place a component may lead so far back, from the last so far on
-pub record IsSpan (precision ratio size first end : ℕ) (least most : ℤ) : Type 0 where
+pub record IsComponentSpan (precision ratio size first end : ℕ) (least most : ℤ) : Type 0 where
   pub back : least ≡ neg_ℤ (pos (first * (2 ^ precision * ratio)))
   pub on : most ≡ pos ((size - end) * (2 ^ precision * ratio) + (ratio - 1))
 

@@ -1,8 +1,8 @@
 ghost use Rattle.std.specs.Prelude.{◌≡◌, ℤ, pos, ◌*◌, ◌^◌, ◌<◌, ◌≤◌, ◌*ℤ◌, unsigned_abs, int_le, ◌&&◌, true};
 ghost use Rattle.dirac_common.specs.declared.formats.Vector.{Vector as TheVector};
-ghost use Rattle.dirac_inside.specs.Inside.{times};
+ghost use Rattle.dirac_inside.specs.Inside.{vector_times};
 ghost use Rattle.dirac_inside.specs.Ranges.{AreBlocks, ArePlaces, HasTheInside, HasThePlanesInside, IsBounded, IsNear};
-ghost use Rattle.dirac_inside.specs.Ranges.{IsRange, IsSpan, is_in};
+ghost use Rattle.dirac_inside.specs.Ranges.{IsRange, IsComponentSpan, is_in};
 
 use crate::picture_blocks::PictureBlocks;
 use dirac_common::Vector;
@@ -31,7 +31,7 @@ impl VectorRange {
         requires range { IsRange self }
         requires vector { IsNear vector }
         requires at_most_256 { count ≤ 256 }
-        ensures { result ≡ is_in self (times count vector) }
+        ensures { result ≡ is_in self (vector_times count vector) }
     {
         let x = multiple(vector.x, count);
         let y = multiple(vector.y, count);
@@ -177,7 +177,7 @@ fn span_of(places: Places, size: u32, ratio: u32, precision: u8) -> Span
     requires end { places.end ≤ size }
     requires ratio { (1 ≤ ratio) × (ratio ≤ 2) }
     requires precision { precision ≤ 3 }
-    ensures span { IsSpan precision ratio size places.first places.end result.least result.most }
+    ensures span { IsComponentSpan precision ratio size places.first places.end result.least result.most }
     ensures at_most_2_40 { (unsigned_abs result.least ≤ 2 ^ 40) × (unsigned_abs result.most ≤ 2 ^ 40) }
 {
     let scale = parts(precision) * ratio;

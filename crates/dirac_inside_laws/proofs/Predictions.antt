@@ -14,7 +14,7 @@ use Rattle.dirac_block_table.specs.declared.block.Block.{Block}
 use Rattle.dirac_upconvert.specs.SubSamples.{Up, part_sample}
 use Rattle.dirac_inside.specs.Inside.{is_inside}
 use Rattle.dirac_inside.specs.declared.picture_blocks.PictureBlocks.{PictureBlocks}
-use Rattle.dirac_obmc.specs.Compensation.{Compensation, IsMotion, across_ratio, blended, blocks_across, blocks_down, dc_of, down_ratio, from_one, from_two, moved_sample, position, predicted_at, predicted_plane, predicts, second_sample, term, total, weight_of}
+use Rattle.dirac_obmc.specs.Compensation.{Compensation, IsCompensation, across_ratio, blended, blocks_across, blocks_down, component_dc, down_ratio, from_one, from_two, moved_sample, position, predicted_at, predicted_plane, predicts, second_sample, term, signed_total, weight_of}
 use Rattle.dirac_inside_laws.specs.Alike.{ClampingExtends, ExtensionsPredictAlike, LeadsInside}
 use Rattle.dirac_inside_laws.specs.Extended.{Extends, HalfSamples, clamped, clamped_second, extended_plane, moved_in, predicted_in, predicts_in, second_in, term_in}
 use Rattle.dirac_inside_laws.specs.Kept.{IsPlaneOf, VectorsKeepInside}
@@ -40,7 +40,7 @@ second_same m (Some up) e v x y fine sizes is leads = moved_same m up e v x y fi
 
 -- what is asked of a plane and its extensions
 record AreExtended (m : Compensation) (first second : HalfSamples) : Type 0 where
-  motion : IsMotion m
+  motion : IsCompensation m
   one : Extends m.up1 first
   two : ForSome m.up2 (λ u. Extends u second)
 
@@ -57,7 +57,7 @@ predicts_same : (m : Compensation) (first second : HalfSamples) (b : Block) (x y
     → (b.ref1 ≡ true → LeadsInside m b.v1 x y) → (b.ref2 ≡ true → LeadsInside m b.v2 x y) → predicts_in m first second b x y ≡ predicts m b x y
 unfolding predicts
 predicts_same m first second b x y are leads1 leads2 =
-    by_references m (dc_of m.component b) b.ref1 b.ref2 (moved_in m first b.v1 x y) (second_in m m.up2 second b.v2 x y) (moved_sample m m.up1 b.v1 x y) (second_sample m m.up2 b.v2 x y)
+    by_references m (component_dc m.component b) b.ref1 b.ref2 (moved_in m first b.v1 x y) (second_in m m.up2 second b.v2 x y) (moved_sample m m.up1 b.v1 x y) (second_sample m m.up2 b.v2 x y)
     (λ e. moved_same m m.up1 first b.v1 x y are.motion.precision are.motion.first.0 are.motion.first.1 are.one (leads1 e))
     (λ e. second_same m m.up2 second b.v2 x y are.motion.precision are.motion.second are.two (leads2 e))
 
@@ -75,7 +75,7 @@ term_same p m first second x y j i are is keep column row l k =
           ap (λ (z : ℤ). pos (weight_of m x y j i) *ℤ z) (predicts_same m first second b x y are leads.0 leads.1)
     ]
 
-total_same : (f g : ℕ → ℤ) (n : ℕ) → ((i : ℕ) → i < n → f i ≡ g i) → total f n ≡ total g n
+total_same : (f g : ℕ → ℤ) (n : ℕ) → ((i : ℕ) → i < n → f i ≡ g i) → signed_total f n ≡ signed_total g n
 total_same f g zero h = refl
 total_same f g (suc n) h = ap₂ (λ (a b : ℤ). a +ℤ b) (total_same f g n (λ i l. h i (omega arith))) (h n (omega arith))
 
@@ -83,7 +83,7 @@ predicted_same : (p : PictureBlocks) (m : Compensation) (first second : HalfSamp
     → x < m.width → y < m.height → predicted_in m first second x y ≡ predicted_at m x y
 predicted_same p m first second x y are is keep l k =
     ap (λ (z : ℤ). int_shr (z +ℤ pos 32) 6)
-    (total_same (λ j. total (term_in m first second x y j) (blocks_across m)) (λ j. total (term m x y j) (blocks_across m)) (blocks_down m)
+    (total_same (λ j. signed_total (term_in m first second x y j) (blocks_across m)) (λ j. signed_total (term m x y j) (blocks_across m)) (blocks_down m)
     (λ j row. total_same (term_in m first second x y j) (term m x y j) (blocks_across m) (λ i column. term_same p m first second x y j i are is keep column row l k)))
 
 -- tables of the same values
@@ -117,7 +117,7 @@ clamped_first_is m up v x y = refl
 clamped_predicts : (m : Compensation) (b : Block) (x y : ℕ) → predicts_in m (clamped m.up1) (clamped_second m.up2) b x y ≡ predicts m b x y
 unfolding predicts
 clamped_predicts m b x y =
-    by_references m (dc_of m.component b) b.ref1 b.ref2 (moved_in m (clamped m.up1) b.v1 x y) (second_in m m.up2 (clamped_second m.up2) b.v2 x y) (moved_sample m m.up1 b.v1 x y) (second_sample m m.up2 b.v2 x y)
+    by_references m (component_dc m.component b) b.ref1 b.ref2 (moved_in m (clamped m.up1) b.v1 x y) (second_in m m.up2 (clamped_second m.up2) b.v2 x y) (moved_sample m m.up1 b.v1 x y) (second_sample m m.up2 b.v2 x y)
     (λ e. clamped_first_is m m.up1 b.v1 x y) (λ e. clamped_second_is m m.up2 b.v2 x y)
 
 clamped_term : (m : Compensation) (x y j i : ℕ) → term_in m (clamped m.up1) (clamped_second m.up2) x y j i ≡ term m x y j i
@@ -129,5 +129,5 @@ clamped_extends m =
     ap (λ (vs : List ℤ). record { width = m.width; height = m.height; values = vs })
     (filled_same m.width m.height (predicted_in m (clamped m.up1) (clamped_second m.up2)) (predicted_at m) (λ x y l k.
     ap (λ (z : ℤ). int_shr (z +ℤ pos 32) 6)
-    (total_same (λ j. total (term_in m (clamped m.up1) (clamped_second m.up2) x y j) (blocks_across m)) (λ j. total (term m x y j) (blocks_across m)) (blocks_down m)
+    (total_same (λ j. signed_total (term_in m (clamped m.up1) (clamped_second m.up2) x y j) (blocks_across m)) (λ j. signed_total (term m x y j) (blocks_across m)) (blocks_down m)
     (λ j row. total_same (term_in m (clamped m.up1) (clamped_second m.up2) x y j) (term m x y j) (blocks_across m) (λ i column. clamped_term m x y j i)))))

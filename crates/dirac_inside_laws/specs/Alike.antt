@@ -5,7 +5,8 @@ use Rattle.dirac_common.specs.declared.formats.Vector.{Vector}
 use Rattle.dirac_block_table.specs.Tables.{block_at}
 use Rattle.dirac_inside.specs.Inside.{is_inside}
 use Rattle.dirac_inside.specs.declared.picture_blocks.PictureBlocks.{PictureBlocks}
-use Rattle.dirac_obmc.specs.Compensation.{Compensation, IsMotion, across_ratio, blocks_across, blocks_down, down_ratio}
+use Rattle.dirac_obmc.specs.Compensation.{Compensation, IsCompensation, across_ratio, blocks_across, blocks_down}
+use Rattle.dirac_obmc.specs.Compensation.{down_ratio}
 use Rattle.dirac_obmc.specs.Compensation.{position, predicted_plane, weight_of}
 use Rattle.dirac_inside_laws.specs.Extended.{Extends, HalfSamples, clamped, clamped_second, extended_plane}
 use Rattle.dirac_inside_laws.specs.Kept.{IsPlaneOf, VectorsKeepInside}
@@ -28,7 +29,7 @@ WeightedPositionsAreInside =
 -- where the vectors keep inside, every way to extend the references predicts the plane that is predicted
 abbrev pub ExtensionsPredictAlike : Type 0
 ExtensionsPredictAlike =
-    (p : PictureBlocks) (m : Compensation) (first second : HalfSamples) → IsMotion m → IsPlaneOf p m
+    (p : PictureBlocks) (m : Compensation) (first second : HalfSamples) → IsCompensation m → IsPlaneOf p m
     → VectorsKeepInside p m.prediction.precision m.blocks → Extends m.up1 first → ForSome m.up2 (λ u. Extends u second)
     → extended_plane m first second ≡ predicted_plane m
 

@@ -7,8 +7,9 @@ use Rattle.dirac_common.specs.declared.formats.Vector.{Vector}
 use Rattle.dirac_block_table.specs.Tables.{block_at}
 use Rattle.dirac_block_table.specs.declared.block.Block.{Block}
 use Rattle.dirac_upconvert.specs.SubSamples.{Up, place_at, product, rest_at, rounded}
-use Rattle.dirac_obmc.specs.Compensation.{Compensation, across_ratio, blocks_across, blocks_down, dc_of, down_ratio}
-use Rattle.dirac_obmc.specs.Compensation.{from_one, from_two, position, total, weight_of}
+use Rattle.dirac_obmc.specs.Compensation.{Compensation, across_ratio, blocks_across, blocks_down, component_dc}
+use Rattle.dirac_obmc.specs.Compensation.{down_ratio}
+use Rattle.dirac_obmc.specs.Compensation.{from_one, from_two, position, signed_total, weight_of}
 
 -- half samples at all positions, those outside of a plane too
 abbrev pub HalfSamples : Type 0
@@ -54,7 +55,7 @@ predicts_in m first second b x y =
     then (if b.ref2
     then from_two m.prediction (moved_in m first b.v1 x y) (second_in m m.up2 second b.v2 x y)
     else from_one m.prediction (moved_in m first b.v1 x y))
-    else (if b.ref2 then from_one m.prediction (second_in m m.up2 second b.v2 x y) else dc_of m.component b)
+    else (if b.ref2 then from_one m.prediction (second_in m m.up2 second b.v2 x y) else component_dc m.component b)
 
 -- what block i of row j adds at column x of row y
 abbrev pub term_in : Compensation → HalfSamples → HalfSamples → ℕ → ℕ → ℕ → ℕ → ℤ
@@ -64,7 +65,8 @@ term_in m first second x y j i =
 -- the prediction of the sample in column x of row y
 abbrev pub predicted_in : Compensation → HalfSamples → HalfSamples → ℕ → ℕ → ℤ
 predicted_in m first second x y =
-    int_shr (total (λ j. total (term_in m first second x y j) (blocks_across m)) (blocks_down m) +ℤ pos 32) 6
+    int_shr
+    (signed_total (λ j. signed_total (term_in m first second x y j) (blocks_across m)) (blocks_down m) +ℤ pos 32) 6
 
 -- the prediction of the plane, from references that are extended so
 abbrev pub extended_plane : Compensation → HalfSamples → HalfSamples → Table

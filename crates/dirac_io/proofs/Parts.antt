@@ -5,7 +5,7 @@ use Rattle.std.proofs.Math.Seq.{take-length}
 use Rattle.std.specs.Prelude.{Some, min}
 use Rattle.std.proofs.Common.{◌^◌, ◌<◌, length-drop, length-append}
 use Rattle.dirac_io.specs.Reading.{GivesFront}
-use Rattle.dirac_io.specs.Memory.{left_of}
+use Rattle.dirac_io.specs.Memory.{count_left}
 
 -- a front of the piece was written, and n more bytes of the rest
 pub written_more : {A : Type 0} (piece front rest : List A) (n : ℕ) → piece ≡ front ++ rest
@@ -30,7 +30,7 @@ copied_front n from items copied behind room is =
 pub gives_front : (n from most : ℕ) (items bytes rest copied buf : List ℕ)
     → drop from items ≡ bytes → rest ≡ drop from items → 1 ≤ most → 0 < length buf → 0 < length rest
     → length items < 2 ^ 63 → n ≡ min (min most (length buf)) (length rest) → copied ≡ take n rest
-    → GivesFront n (copied ++ drop n buf) (Some bytes) (Some (drop (from + n) items)) (left_of bytes) (left_of (drop (from + n) items))
+    → GivesFront n (copied ++ drop n buf) (Some bytes) (Some (drop (from + n) items)) (count_left bytes) (count_left (drop (from + n) items))
 gives_front n from most items bytes rest copied buf is_bytes is_rest some_most some_room some_rest small is_n is_copied =
     let same : length rest ≡ length (drop from items) = ap length is_rest in
     let within : n ≤ length (drop from items) = omega arith in

@@ -12,9 +12,9 @@ abbrev pub one_more : ℕ → ℕ
 one_more count = min (count + 1) (2 ^ 64 - 1)
 
 -- a count as its type holds it
-abbrev pub clipped : ℕ → ℕ
-clipped count = min count (2 ^ 64 - 1)
+abbrev pub held_count : ℕ → ℕ
+held_count count = min count (2 ^ 64 - 1)
 
 -- it fits
-pub clipped_fits : (count : ℕ) → clipped count < 2 ^ 64
+pub clipped_fits : (count : ℕ) → held_count count < 2 ^ 64
 clipped_fits count = lt_of_le_of_lt (min-le_right count (2 ^ 64 - 1)) (lit< tt)

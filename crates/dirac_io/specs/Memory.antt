@@ -35,11 +35,11 @@ fed feed room = record {
 }
 
 -- a list's length as a number below 2^63
-abbrev pub left_of : List ℕ → ℕ
-left_of bytes = min (length bytes) (2 ^ 63 - 1)
+abbrev pub count_left : List ℕ → ℕ
+count_left bytes = min (length bytes) (2 ^ 63 - 1)
 
 -- it is one
-pub left_of_fits : (bytes : List ℕ) → left_of bytes < 2 ^ 63
+pub left_of_fits : (bytes : List ℕ) → count_left bytes < 2 ^ 63
 left_of_fits bytes = lt_of_le_of_lt (min-le_right (length bytes) (2 ^ 63 - 1)) (lit< tt)
 
 -- a sink in memory: the bytes it took, the most that a write takes, and its calls

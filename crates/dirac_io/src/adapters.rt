@@ -1,6 +1,6 @@
 ghost use Rattle.std.specs.Prelude.{◌≡◌, ◌+◌, ◌-◌, ◌<◌, ◌≤◌, ◌^◌, false, length, true};
 ghost use Rattle.std.specs.Io.KnownBytes.{Keeps};
-ghost use Rattle.dirac_io.specs.Faults.{Rose, clipped, clipped_fits, one_more};
+ghost use Rattle.dirac_io.specs.Faults.{Rose, held_count, clipped_fits, one_more};
 ghost use Rattle.dirac_io.specs.Reading.{GivesFront, IfBytes, MeetsEnd};
 ghost use Rattle.dirac_io.specs.Writing.{IfTaken, TakesFront};
 ghost use Rattle.dirac_io.specs.Adapters.{left_after, left_after_fits};
@@ -47,7 +47,7 @@ impl<R> ReaderSource<R> {
 impl<R: Read> Source for ReaderSource<R> {
     ghost held = { λ s. R.remaining s.reader };
 
-    ghost faults = { λ s. clipped s.faults };
+    ghost faults = { λ s. held_count s.faults };
 
     ghost left = { λ s. left_after s.given };
 
@@ -60,11 +60,11 @@ impl<R: Read> Source for ReaderSource<R> {
         ensures bytes { IfBytes result (λ n. GivesFront n buf.new (R.remaining self.old.reader)
             (R.remaining self.new.reader) (left_after self.old.given) (left_after self.new.given)) }
         ensures end { result ≡ Got.End → MeetsEnd (R.remaining self.old.reader) (R.remaining self.new.reader)
-            (clipped self.old.faults) (clipped self.new.faults) (left_after self.old.given)
+            (held_count self.old.faults) (held_count self.new.faults) (left_after self.old.given)
             (left_after self.new.given) }
-        ensures failed { result ≡ Got.Failed → Rose (clipped self.old.faults) (clipped self.new.faults) }
+        ensures failed { result ≡ Got.Failed → Rose (held_count self.old.faults) (held_count self.new.faults) }
         ensures kept { result ≡ Got.Failed → Keeps (R.remaining self.old.reader) (R.remaining self.new.reader) }
-        ensures count { clipped self.old.faults ≤ clipped self.new.faults }
+        ensures count { held_count self.old.faults ≤ held_count self.new.faults }
         ensures left { left_after self.new.given ≤ left_after self.old.given }
         ensures uncounted { IfBytes result (λ _. self.new.faults ≡ self.old.faults) }
         ensures counted { result ≡ Got.Failed → self.new.faults ≡ one_more self.old.faults }
@@ -125,7 +125,7 @@ impl<W> WriterSink<W> {
 impl<W: Write> WriterSink<W> {
     /// Flushes the writer. False where that fails, which is counted.
     pub fn flush(&mut self) -> bool
-        ensures failed { result ≡ false → Rose (clipped self.old.faults) (clipped self.new.faults) }
+        ensures failed { result ≡ false → Rose (held_count self.old.faults) (held_count self.new.faults) }
         ensures kept { Keeps (W.contents self.old.writer) (W.contents self.new.writer) }
         ensures count { self.old.faults ≤ self.new.faults }
         ensures uncounted { result ≡ true → self.new.faults ≡ self.old.faults }
@@ -144,7 +144,7 @@ impl<W: Write> WriterSink<W> {
 impl<W: Write> Sink for WriterSink<W> {
     ghost taken = { λ s. W.contents s.writer };
 
-    ghost faults = { λ s. clipped s.faults };
+    ghost faults = { λ s. held_count s.faults };
 
     ghost faults_fit = { λ s. clipped_fits s.faults };
 
@@ -152,10 +152,10 @@ impl<W: Write> Sink for WriterSink<W> {
         requires { 0 < length piece.now }
         ensures bytes { IfTaken result (λ n. TakesFront n piece.now (W.contents self.old.writer)
             (W.contents self.new.writer)) }
-        ensures failed { result ≡ Took.Failed → Rose (clipped self.old.faults) (clipped self.new.faults) }
+        ensures failed { result ≡ Took.Failed → Rose (held_count self.old.faults) (held_count self.new.faults) }
         ensures kept { result ≡ Took.Failed → Keeps (W.contents self.old.writer) (W.contents self.new.writer) }
         ensures memory { result ≡ Took.NoMemory → ⊥ }
-        ensures count { clipped self.old.faults ≤ clipped self.new.faults }
+        ensures count { held_count self.old.faults ≤ held_count self.new.faults }
         ensures uncounted { IfTaken result (λ _. self.new.faults ≡ self.old.faults) }
         ensures counted { result ≡ Took.Failed → self.new.faults ≡ one_more self.old.faults }
     {

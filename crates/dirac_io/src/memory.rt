@@ -1,11 +1,11 @@
 ghost use Rattle.std.specs.Prelude.{◌≡◌, ◌<◌, ◌≤◌, ◌^◌, [], Some, length, min};
 ghost use Rattle.std.specs.Io.KnownBytes.{Keeps};
-ghost use Rattle.dirac_io.specs.Faults.{Rose, clipped, clipped_fits};
+ghost use Rattle.dirac_io.specs.Faults.{Rose, held_count, clipped_fits};
 ghost use Rattle.dirac_io.specs.Reading.{IfBytes, GivesFront, MeetsEnd};
 ghost use Rattle.dirac_io.specs.Writing.{IfTaken, TakesFront};
 ghost use Rattle.dirac_io.specs.Calls.{none_called, called};
 ghost use Rattle.dirac_io.specs.Calls.{fails as is_failing};
-ghost use Rattle.dirac_io.specs.Memory.{feed_answer, fed, left_of, left_of_fits, AnswersWrite, stored};
+ghost use Rattle.dirac_io.specs.Memory.{feed_answer, fed, count_left, left_of_fits, AnswersWrite, stored};
 
 use crate::failing::Failing;
 use crate::{Got, Sink, Source, Took};
@@ -57,9 +57,9 @@ impl MemSource {
 impl Source for MemSource {
     ghost held = { λ s. Some s.bytes };
 
-    ghost faults = { λ s. clipped s.calls.count };
+    ghost faults = { λ s. held_count s.calls.count };
 
-    ghost left = { λ s. left_of s.bytes };
+    ghost left = { λ s. count_left s.bytes };
 
     ghost left_fits = { λ s. left_of_fits s.bytes };
 
@@ -68,14 +68,15 @@ impl Source for MemSource {
     fn read(&mut self, buf: &mut [u8]) -> Got
         requires { 0 < length buf.old }
         ensures bytes { IfBytes result (λ n. GivesFront n buf.new
-            (Some self.old.bytes) (Some self.new.bytes) (left_of self.old.bytes) (left_of self.new.bytes)) }
+            (Some self.old.bytes) (Some self.new.bytes) (count_left self.old.bytes) (count_left self.new.bytes)) }
         ensures end { result ≡ Got.End → MeetsEnd (Some self.old.bytes) (Some self.new.bytes)
-            (clipped self.old.calls.count) (clipped self.new.calls.count) (left_of self.old.bytes)
-            (left_of self.new.bytes) }
-        ensures failed { result ≡ Got.Failed → Rose (clipped self.old.calls.count) (clipped self.new.calls.count) }
+            (held_count self.old.calls.count) (held_count self.new.calls.count) (count_left self.old.bytes)
+            (count_left self.new.bytes) }
+        ensures failed { result ≡ Got.Failed
+            → Rose (held_count self.old.calls.count) (held_count self.new.calls.count) }
         ensures kept { result ≡ Got.Failed → Keeps (Some self.old.bytes) (Some self.new.bytes) }
-        ensures count { clipped self.old.calls.count ≤ clipped self.new.calls.count }
-        ensures left { left_of self.new.bytes ≤ left_of self.old.bytes }
+        ensures count { held_count self.old.calls.count ≤ held_count self.new.calls.count }
+        ensures left { count_left self.new.bytes ≤ count_left self.old.bytes }
         ensures answer { result ≡ feed_answer self.old (length buf.old) }
         ensures fed { self.new ≡ fed self.old (length buf.old) }
     {
@@ -143,17 +144,18 @@ impl MemSink {
 impl Sink for MemSink {
     ghost taken = { λ s. Some s.taken };
 
-    ghost faults = { λ s. clipped s.calls.count };
+    ghost faults = { λ s. held_count s.calls.count };
 
     ghost faults_fit = { λ s. clipped_fits s.calls.count };
 
     fn write(&mut self, piece: &[u8]) -> Took
         requires { 0 < length piece.now }
         ensures bytes { IfTaken result (λ n. TakesFront n piece.now (Some self.old.taken) (Some self.new.taken)) }
-        ensures failed { result ≡ Took.Failed → Rose (clipped self.old.calls.count) (clipped self.new.calls.count) }
+        ensures failed { result ≡ Took.Failed
+            → Rose (held_count self.old.calls.count) (held_count self.new.calls.count) }
         ensures kept { result ≡ Took.Failed → Keeps (Some self.old.taken) (Some self.new.taken) }
         ensures no_memory { result ≡ Took.NoMemory → Keeps (Some self.old.taken) (Some self.new.taken) }
-        ensures count { clipped self.old.calls.count ≤ clipped self.new.calls.count }
+        ensures count { held_count self.old.calls.count ≤ held_count self.new.calls.count }
         ensures answer { AnswersWrite result (is_failing self.old.calls) (min self.old.most (length piece.now)) }
         ensures stored { self.new ≡ stored self.old result piece.now }
     {

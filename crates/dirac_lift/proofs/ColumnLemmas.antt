@@ -19,7 +19,7 @@ pub column_at : (xs : List ℤ) (w h x y : ℕ) → y < h → get_or (column xs 
 unfolding column
 column_at xs w h x y l = get_or-map-range_with_len (λ j. get_or xs (j * w + x) (pos 0)) 0 h y y (pos 0) l (omega arith)
 
-column-set_same : (xs : List ℤ) (w h x y : ℕ) (v : ℤ) → length xs ≡ w * h → x < w → y < h → column (set xs (y * w + x) v) w h x ≡ set (column xs w h x) y v
+pub column-set_same : (xs : List ℤ) (w h x y : ℕ) (v : ℤ) → length xs ≡ w * h → x < w → y < h → column (set xs (y * w + x) v) w h x ≡ set (column xs w h x) y v
 column-set_same xs w h x y v len p q =
     ext_get_or (pos 0) (column (set xs (y * w + x) v) w h x) (set (column xs w h x) y v)
     (length-column (set xs (y * w + x) v) w h x ∙ sym (length-set (column xs w h x) y v ∙ length-column xs w h x))
@@ -36,7 +36,7 @@ column-set_same xs w h x y v len p q =
           ∙ sym (get_or-set_other (column xs w h x) y j v (pos 0) other ∙ column_at xs w h x j inside)
     ])
 
-column-set_other : (xs : List ℤ) (w h x y z : ℕ) (v : ℤ) → x < w → z < w → z ≢ x → column (set xs (y * w + x) v) w h z ≡ column xs w h z
+pub column-set_other : (xs : List ℤ) (w h x y z : ℕ) (v : ℤ) → x < w → z < w → z ≢ x → column (set xs (y * w + x) v) w h z ≡ column xs w h z
 column-set_other xs w h x y z v p q ne =
     ext_get_or (pos 0) (column (set xs (y * w + x) v) w h z) (column xs w h z)
     (length-column (set xs (y * w + x) v) w h z ∙ sym (length-column xs w h z))

@@ -1,18 +1,19 @@
 -- Rows that a level at work has given.
-use Rattle.std.proofs.Common.{◌≡◌, ℕ, ℤ, pos, ◌+◌, ◌*◌, ◌/◌, ◌%◌, ◌<◌, ◌≤◌, List, length, get_or, take, drop, unsigned_abs, arith, refl, ap, sym, ◌∙◌, subst}
+use Rattle.std.proofs.Common.{◌≡◌, ℕ, ℤ, pos, ◌+◌, ◌-◌, ◌*◌, ◌/◌, ◌%◌, ◌<◌, ◌≤◌, List, length, get_or, take, drop, unsigned_abs, arith, ap, sym, ◌∙◌, subst}
 use Rattle.std.specs.List.{All}
 use Rattle.std.proofs.lemmas.List.{ext_get_or}
 use Rattle.dirac_common.specs.Table.{Table}
 use Rattle.dirac_common.proofs.Rows.{filled_at}
 use Rattle.dirac_lift.specs.declared.half_levels.LinesAtWork.{LinesAtWork}
 use Rattle.dirac_lift.specs.declared.rings.HalfSize.{HalfSize}
-use Rattle.dirac_lift.specs.AtWork.{HasGiven, IsAtWork, lines_of, turns_behind}
-use Rattle.dirac_lift.specs.Halves.{AreHalves, from_halves}
-use Rattle.dirac_lift.specs.Level.{ended, row_in, synthesised}
-use Rattle.dirac_lift.specs.Rings.{AfterTurns, most_of}
+use Rattle.dirac_lift.specs.AtWork.{AreRings, HasGiven, IsAtWork, lines_of, turns_behind}
+use Rattle.dirac_lift.specs.ByLines.{turns}
+use Rattle.dirac_lift.specs.Halves.{AreHalvesOfLine, from_halves}
+use Rattle.dirac_lift.specs.Level.{last_halved, row_in, synthesised}
+use Rattle.dirac_lift.specs.Rings.{AfterTurns, RingsHold, most_of, steps_to_come}
 use Rattle.dirac_lift.specs.Wavelets.{synth}
 use Rattle.dirac_lift.proofs.HalfPlanes.{filled_len, level_at, level_filled}
-use Rattle.dirac_lift.proofs.RingLevels.{even_from_ring, odd_from_ring}
+use Rattle.dirac_lift.proofs.RingLevels.{row_from_ring}
 use Rattle.dirac_lift.proofs.RowLemmas.{length-row, row_at}
 use Rattle.dirac_lift.proofs.Runs.{by_wavelet}
 use Rattle.dirac_lift.proofs.TurnBounds.{longest_waits}
@@ -34,38 +35,21 @@ is_row k w h y es os line len i each =
     let whole : length t.values ≡ w * (2 * h) = ap (λ (t : Table). length t.values) (sym (level_filled k w h es os)) ∙ filled_len w (2 * h) (level_at k w h es os) in
     ext_get_or (pos 0) line (row_in t.values w y) (len ∙ sym (length-row t.values w (2 * h) y whole i)) (λ x l. each x ∙ sym (row_told k w h x y es os (omega (arith, l, len)) i))
 
--- the rings when the pair of rows is finished that a level has given last
-held : (n : ℕ) (es os evens odds : List ℤ) (l : LinesAtWork) → IsAtWork es os l → n + 1 + turns_behind l.wavelet ≡ l.turn → evens ≡ l.evens.items → odds ≡ l.odds.items
-    → AfterTurns l.wavelet l.size.width l.size.half (n + turns_behind l.wavelet + 1) (n + turns_behind l.wavelet + 1) (lines_of l.size.width l.size.half es os) evens odds
-held n es os evens odds l w turn ee eo =
-    let last : l.turn ≡ n + turns_behind l.wavelet + 1 = omega (arith, turn) in
-    rw (ee, eo) (subst (λ (m : ℕ). AfterTurns l.wavelet l.size.width l.size.half m m (lines_of l.size.width l.size.half es os) l.evens.items l.odds.items) last w.hold)
-
-pub even_given : (k w h n f : ℕ) (es os ring line : List ℤ) (l : LinesAtWork) → IsAtWork es os l → HasGiven k w h (n + 1) l → n < h → f + 1 + turns_behind l.wavelet ≡ l.turn → ring ≡ l.evens.items → length line ≡ l.size.width
-    → ((whole : List ℤ) → AreHalves 0 (take (l.size.width / 2) (row_in ring l.size.width (f % 16))) (drop (l.size.width / 2) (row_in ring l.size.width (f % 16))) whole → line ≡ ended l.wavelet (synth l.wavelet whole))
-    → line ≡ row_in (synthesised k (from_halves w h es os)).values w (2 * n)
-even_given k w h n f es os ring line l at_work g inside turn er len each =
-    let is = at_work.rings.wavelet in
-    let seven = behind_at_most_7 l.wavelet is in
+-- a row of the pair that a level has given last: the even one, or with p = 1 the odd one
+pub given : (p k w h n f : ℕ) (es os ring others line : List ℤ) (l : LinesAtWork) → p ≤ 1 → AreRings l → RingsHold p l.size.width l.size.half (l.turn - 16) l.turn (λ x. turns (steps_to_come l.wavelet) l.turn (lines_of l.size.width l.size.half es os x)) ring others → HasGiven k w h (n + 1) l → n < h → f + 1 + turns_behind l.wavelet ≡ l.turn → length line ≡ l.size.width
+    → ((whole : List ℤ) → AreHalvesOfLine 0 (take (l.size.width / 2) (row_in ring l.size.width (f % 16))) (drop (l.size.width / 2) (row_in ring l.size.width (f % 16))) whole → line ≡ last_halved l.wavelet (synth l.wavelet whole))
+    → line ≡ row_in (synthesised k (from_halves w h es os)).values w (2 * n + p)
+given p k w h n f es os ring others line l one rings hold g inside turn len each =
+    let seven = behind_at_most_7 l.wavelet rings.wavelet in
     let wait : turns_behind l.wavelet ≡ turns_behind k = ap turns_behind g.wavelet in
     let here : n ≡ f = omega (arith, turn, g.turn, wait) in
+    let last : l.turn ≡ f + turns_behind l.wavelet + 1 = omega (arith, turn) in
+    let held : RingsHold p l.size.width l.size.half (f + turns_behind l.wavelet + 1 - 16) (f + turns_behind l.wavelet + 1) (λ x. turns (steps_to_come l.wavelet) (f + turns_behind l.wavelet + 1) (lines_of l.size.width l.size.half es os x)) ring others =
+    subst (λ (m : ℕ). RingsHold p l.size.width l.size.half (m - 16) m (λ x. turns (steps_to_come l.wavelet) m (lines_of l.size.width l.size.half es os x)) ring others) last hold in
     rw (sym g.wavelet, sym g.width, sym g.half, here)
-    (is_row l.wavelet l.size.width l.size.half (2 * f) es os line len (omega (arith, inside, here, g.half)) (λ x.
-    even_from_ring l.wavelet l.size.width l.size.half (f + turns_behind l.wavelet) f x es os ring l.odds.items line is at_work.rings.even (held f es os ring l.odds.items l at_work turn er refl)
-    (omega (arith, seven)) (omega (arith, longest_waits l.wavelet is)) (omega (arith, inside, here, g.half)) each))
-
-pub odd_given : (k w h n f : ℕ) (es os ring line : List ℤ) (l : LinesAtWork) → IsAtWork es os l → HasGiven k w h (n + 1) l → n < h → f + 1 + turns_behind l.wavelet ≡ l.turn → ring ≡ l.odds.items → length line ≡ l.size.width
-    → ((whole : List ℤ) → AreHalves 0 (take (l.size.width / 2) (row_in ring l.size.width (f % 16))) (drop (l.size.width / 2) (row_in ring l.size.width (f % 16))) whole → line ≡ ended l.wavelet (synth l.wavelet whole))
-    → line ≡ row_in (synthesised k (from_halves w h es os)).values w (2 * n + 1)
-odd_given k w h n f es os ring line l at_work g inside turn er len each =
-    let is = at_work.rings.wavelet in
-    let seven = behind_at_most_7 l.wavelet is in
-    let wait : turns_behind l.wavelet ≡ turns_behind k = ap turns_behind g.wavelet in
-    let here : n ≡ f = omega (arith, turn, g.turn, wait) in
-    rw (sym g.wavelet, sym g.width, sym g.half, here)
-    (is_row l.wavelet l.size.width l.size.half (2 * f + 1) es os line len (omega (arith, inside, here, g.half)) (λ x.
-    odd_from_ring l.wavelet l.size.width l.size.half (f + turns_behind l.wavelet) f x es os l.evens.items ring line is at_work.rings.even (held f es os l.evens.items ring l at_work turn refl er)
-    (omega (arith, seven)) (omega (arith, longest_waits l.wavelet is)) (omega (arith, inside, here, g.half)) each))
+    (is_row l.wavelet l.size.width l.size.half (2 * f + p) es os line len (omega (arith, inside, here, g.half, one)) (λ x.
+    row_from_ring p l.wavelet l.size.width l.size.half (f + turns_behind l.wavelet) f x es os ring others line rings.wavelet one rings.even held
+    (omega (arith, seven)) (omega (arith, longest_waits l.wavelet rings.wavelet)) (omega (arith, inside, here, g.half)) each))
 
 -- behind a turn a level has given a pair more
 pub turned : (k w h n m : ℕ) (before after : LinesAtWork) → HasGiven k w h n before → after.wavelet ≡ before.wavelet → after.size ≡ before.size → after.turn ≡ before.turn + 1 → m ≡ n + 1 → HasGiven k w h m after

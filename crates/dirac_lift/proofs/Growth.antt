@@ -5,7 +5,7 @@ use Rattle.std.proofs.lemmas.Int.{ints}
 use Rattle.std.proofs.lemmas.Nat.{pow_pos}
 use Rattle.std.proofs.lemmas.Bool.{cases_lt}
 use Rattle.dirac_bands.proofs.Sizes.{div_mono}
-use Rattle.dirac_lift.specs.Lifting.{Step, own, value_read, weighted, change_at, moved, new_at, lift, PlacesWithin, grown}
+use Rattle.dirac_lift.specs.Lifting.{Step, own, value_read, weighted, change_at, moved, new_at, lift, PlacesWithin, grown_by_step}
 use Rattle.dirac_lift.proofs.Lifted.{LiftedBelow, lift_below}
 use Rattle.dirac_lift.proofs.Signed.{abs-rounded}
 use Rattle.dirac_lift.proofs.Weighted.{abs-weighted}
@@ -25,11 +25,11 @@ abs-change s b xs n h =
       div_mono (unsigned_abs (weighted s.taps (value_read s.parity s.lead xs n) (length s.taps)) + 2 ^ s.shift / 2) (sum_by unsigned_abs s.taps * b + 2 ^ s.shift / 2) (2 ^ s.shift) (pow_pos s.shift) (omega (arith, sum)),
     )
 
-pub abs-new : (s : Step) (a b : ℕ) (xs : List ℤ) (n : ℕ) → PlacesWithin a s.parity xs → PlacesWithin b (1 - s.parity) xs → unsigned_abs (new_at s xs n) ≤ grown s a b
+pub abs-new : (s : Step) (a b : ℕ) (xs : List ℤ) (n : ℕ) → PlacesWithin a s.parity xs → PlacesWithin b (1 - s.parity) xs → unsigned_abs (new_at s xs n) ≤ grown_by_step s a b
 abs-new s a b xs n ha hb =
     omega (arith, abs-moved s.minus (get_or xs (own s.parity n) (pos 0)) (change_at s xs n), ha n, abs-change s b xs n hb)
 
-pub own_grown : (s : Step) (a b : ℕ) (xs : List ℤ) → s.parity ≤ 1 → length xs % 2 ≡ 0 → PlacesWithin a s.parity xs → PlacesWithin b (1 - s.parity) xs → PlacesWithin (grown s a b) s.parity (lift s xs)
+pub own_grown : (s : Step) (a b : ℕ) (xs : List ℤ) → s.parity ≤ 1 → length xs % 2 ≡ 0 → PlacesWithin a s.parity xs → PlacesWithin b (1 - s.parity) xs → PlacesWithin (grown_by_step s a b) s.parity (lift s xs)
 own_grown s a b xs p even ha hb n =
     let all : LiftedBelow s xs (lift s xs) (length xs / 2) = lift_below s xs p even in
     elim (cases_lt n (length xs / 2)) [

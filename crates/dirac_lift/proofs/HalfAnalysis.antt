@@ -10,8 +10,8 @@ use Rattle.dirac_common.proofs.Bounds.{values_bound}
 use Rattle.dirac_common.proofs.Rows.{filled_at, rows_all}
 use Rattle.dirac_lift.specs.HalfRows.{analysed_rows, column_of}
 use Rattle.dirac_lift.specs.HalfRuns.{AreNarrow, HalvesRun, stays_narrow}
-use Rattle.dirac_lift.specs.Halves.{AreHalves, from_halves, place_of}
-use Rattle.dirac_lift.specs.Level.{analysed, begun, column, columns_by, doubled, row_in, rows_by}
+use Rattle.dirac_lift.specs.Halves.{AreHalvesOfLine, from_halves, place_in_halves}
+use Rattle.dirac_lift.specs.Level.{analysed, first_doubled, column, columns_by, doubled, row_in, rows_by}
 use Rattle.dirac_lift.specs.Lifting.{own}
 use Rattle.dirac_lift.specs.Wavelets.{analyse, has_shift, run, steps_of, taken_back}
 use Rattle.dirac_lift.proofs.ColumnLemmas.{column_at}
@@ -49,7 +49,7 @@ begun_with : (s : Bool) (xs : List ℤ) (i : ℕ) → get_or (if s then map doub
 begun_with true xs i = doubled_at xs i
 begun_with false xs i = refl
 
-pub begun_at : (k : ℕ) (s : Bool) (xs : List ℤ) (i : ℕ) → s ≡ has_shift k → (if s then doubled (get_or xs i (pos 0)) else get_or xs i (pos 0)) ≡ get_or (begun k xs) i (pos 0)
+pub begun_at : (k : ℕ) (s : Bool) (xs : List ℤ) (i : ℕ) → s ≡ has_shift k → (if s then doubled (get_or xs i (pos 0)) else get_or xs i (pos 0)) ≡ get_or (first_doubled k xs) i (pos 0)
 begun_at k s xs i e =
     ap (λ t. if t then doubled (get_or xs i (pos 0)) else get_or xs i (pos 0)) e ∙ sym (begun_with (has_shift k) xs i)
 
@@ -58,11 +58,11 @@ row_begun true xs w y =
     sym (ap (take (y * w + w - y * w)) (drop-map doubled (y * w) xs) ∙ take-map doubled (y * w + w - y * w) (drop (y * w) xs))
 row_begun false xs w y = refl
 
-begun_row : (k : ℕ) (xs : List ℤ) (w y : ℕ) → begun k (row_in xs w y) ≡ row_in (begun k xs) w y
+begun_row : (k : ℕ) (xs : List ℤ) (w y : ℕ) → first_doubled k (row_in xs w y) ≡ row_in (first_doubled k xs) w y
 begun_row k = row_begun (has_shift k)
 
 -- a value of a row by the line that it has the halves of
-pub row_from_halves : (w half x : ℕ) (row line : List ℤ) → half ≡ w / 2 → AreHalves 0 (take half row) (drop half row) line → get_or row x (pos 0) ≡ get_or line (column_of w x) (pos 0)
+pub row_from_halves : (w half x : ℕ) (row line : List ℤ) → half ≡ w / 2 → AreHalvesOfLine 0 (take half row) (drop half row) line → get_or row x (pos 0) ≡ get_or line (column_of w x) (pos 0)
 row_from_halves w half x row line e a = elim (cases_lt x half) [
   | inl inside ↦
       let place : own 0 x ≡ 2 * x = omega arith in
@@ -74,7 +74,7 @@ row_from_halves w half x row line e a = elim (cases_lt x half) [
       (ap (λ i. get_or row i (pos 0)) place ∙ sym (get_or-drop half row (x - half) (pos 0)) ∙ sym (a.read (x - half)) ∙ ap (λ h. get_or line (2 * (x - h) + 1) (pos 0)) e)
 ]
 
-pub column_place : (w x : ℕ) → x < w → w % 2 ≡ 0 → column_of w (place_of w x) ≡ x
+pub column_place : (w x : ℕ) → x < w → w % 2 ≡ 0 → column_of w (place_in_halves w x) ≡ x
 column_place w x l wide = elim (cases_eq (x % 2) 0) [
   | inl even ↦
       ap (column_of w) (place_even w (x / 2) x (omega (arith, even)))
@@ -85,27 +85,27 @@ column_place w x l wide = elim (cases_eq (x % 2) 0) [
 ]
 
 -- the rows of a level, by those that are analysed into their halves
-level_row : (k first : ℕ) (t : Table) (x y : ℕ) → x < t.width → t.width % 2 ≡ 0 → y % 2 ≡ first → y < 2 * (t.height / 2) → get_or (analysed_rows k first t).values (y / 2 * t.width + place_of t.width x) (pos 0) ≡ get_or (analyse k (row_in (begun k t.values) t.width y)) x (pos 0)
+level_row : (k first : ℕ) (t : Table) (x y : ℕ) → x < t.width → t.width % 2 ≡ 0 → y % 2 ≡ first → y < 2 * (t.height / 2) → get_or (analysed_rows k first t).values (y / 2 * t.width + place_in_halves t.width x) (pos 0) ≡ get_or (analyse k (row_in (first_doubled k t.values) t.width y)) x (pos 0)
 level_row k first t x y l even half inside =
     let place : 2 * (y / 2) + first ≡ y = omega (arith, half) in
-    filled_at (λ x y. get_or (analyse k (begun k (row_in t.values t.width (2 * y + first)))) (column_of t.width x) (pos 0)) t.width (t.height / 2) (place_of t.width x) (y / 2) (place_in t.width x l even) (omega (arith, inside))
-    ∙ ap (λ i. get_or (analyse k (begun k (row_in t.values t.width (2 * (y / 2) + first)))) i (pos 0)) (column_place t.width x l even)
-    ∙ ap (λ i. get_or (analyse k (begun k (row_in t.values t.width i))) x (pos 0)) place
+    filled_at (λ x y. get_or (analyse k (first_doubled k (row_in t.values t.width (2 * y + first)))) (column_of t.width x) (pos 0)) t.width (t.height / 2) (place_in_halves t.width x) (y / 2) (place_in t.width x l even) (omega (arith, inside))
+    ∙ ap (λ i. get_or (analyse k (first_doubled k (row_in t.values t.width (2 * (y / 2) + first)))) i (pos 0)) (column_place t.width x l even)
+    ∙ ap (λ i. get_or (analyse k (first_doubled k (row_in t.values t.width i))) x (pos 0)) place
     ∙ ap (λ zs. get_or (analyse k zs) x (pos 0)) (begun_row k t.values t.width y)
 
 abbrev rows_of : ℕ → Table → Table
-rows_of k t = rows_by (analyse k) (record t { values = begun k t.values })
+rows_of k t = rows_by (analyse k) (record t { values = first_doubled k t.values })
 
 level_rows : (k : ℕ) (t : Table) → t.width % 2 ≡ 0 → t.height % 2 ≡ 0 → 0 < t.width → from_halves t.width (t.height / 2) (analysed_rows k 0 t).values (analysed_rows k 1 t).values ≡ rows_of k t
 level_rows k t across down some =
     let es = (analysed_rows k 0 t).values in
     let os = (analysed_rows k 1 t).values in
-    rows_all (λ x y. get_or (analyse k (row_in (begun k t.values) t.width y)) x (pos 0)) (from_halves t.width (t.height / 2) es os) t.width t.height t.height refl (omega (arith, down)) some (omega arith)
+    rows_all (λ x y. get_or (analyse k (row_in (first_doubled k t.values) t.width y)) x (pos 0)) (from_halves t.width (t.height / 2) es os) t.width t.height t.height refl (omega (arith, down)) some (omega arith)
     (record {
-      len = filled_len t.width (2 * (t.height / 2)) (λ x y. get_or (if y % 2 == 0 then es else os) (y / 2 * t.width + place_of t.width x) (pos 0));
+      len = filled_len t.width (2 * (t.height / 2)) (λ x y. get_or (if y % 2 == 0 then es else os) (y / 2 * t.width + place_in_halves t.width x) (pos 0));
       done = λ x y l below.
           let inside : y < 2 * (t.height / 2) = omega (arith, below, down) in
-          filled_at (λ x y. get_or (if y % 2 == 0 then es else os) (y / 2 * t.width + place_of t.width x) (pos 0)) t.width (2 * (t.height / 2)) x y l inside
+          filled_at (λ x y. get_or (if y % 2 == 0 then es else os) (y / 2 * t.width + place_in_halves t.width x) (pos 0)) t.width (2 * (t.height / 2)) x y l inside
           ∙ elim (cases_eq (y % 2) 0) [
             | inl even ↦ rw (eq-eqb (y % 2) 0 even) (level_row k 0 t x y l across even inside)
             | inr odd ↦ rw (ne_eqb (y % 2) 0 odd) (level_row k 1 t x y l across (omega (arith, odd)) inside)
@@ -113,15 +113,15 @@ level_rows k t across down some =
     })
 
 -- the columns of a level
-column_ran : (k w h : ℕ) (es os new_es new_os : List ℤ) (x : ℕ) → HalvesRun (taken_back (steps_of k)) w h es os new_es new_os → x < w → w % 2 ≡ 0 → AreHalves 0 (column new_es w h (place_of w x)) (column new_os w h (place_of w x)) (analyse k (column (from_halves w h es os).values w (2 * h) x))
+column_ran : (k w h : ℕ) (es os new_es new_os : List ℤ) (x : ℕ) → HalvesRun (taken_back (steps_of k)) w h es os new_es new_os → x < w → w % 2 ≡ 0 → AreHalvesOfLine 0 (column new_es w h (place_in_halves w x)) (column new_os w h (place_in_halves w x)) (analyse k (column (from_halves w h es os).values w (2 * h) x))
 unfolding analyse
 column_ran k w h es os new_es new_os x r l even =
-    r.each (place_of w x) (column (from_halves w h es os).values w (2 * h) x) (place_in w x l even) (column_halves w h es os x l)
+    r.each (place_in_halves w x) (column (from_halves w h es os).values w (2 * h) x) (place_in w x l even) (column_halves w h es os x l)
 
 level_columns : (k w h : ℕ) (es os new_es new_os : List ℤ) → HalvesRun (taken_back (steps_of k)) w h es os new_es new_os → w % 2 ≡ 0 → 0 < w → columns_by (analyse k) (from_halves w h es os) ≡ from_halves w h new_es new_os
 level_columns k w h es os new_es new_os r across some =
     let f : ℕ → ℕ → ℤ = λ x y. get_or (analyse k (column (from_halves w h es os).values w (2 * h) x)) y (pos 0) in
-    rows_all (λ x y. get_or (if y % 2 == 0 then new_es else new_os) (y / 2 * w + place_of w x) (pos 0)) (columns_by (analyse k) (from_halves w h es os)) w (2 * h) (2 * h) refl refl some (omega arith)
+    rows_all (λ x y. get_or (if y % 2 == 0 then new_es else new_os) (y / 2 * w + place_in_halves w x) (pos 0)) (columns_by (analyse k) (from_halves w h es os)) w (2 * h) (2 * h) refl refl some (omega arith)
     (record {
       len = filled_len w (2 * h) f;
       done = λ x y l inside.
@@ -132,11 +132,11 @@ level_columns k w h es os new_es new_os r across some =
             | inl even ↦
                 let place : y ≡ own 0 (y / 2) = omega (arith, even) in
                 rw (eq-eqb (y % 2) 0 even)
-                (ap (λ i. get_or line i (pos 0)) place ∙ ran.changed (y / 2) ∙ column_at new_es w h (place_of w x) (y / 2) (omega (arith, inside)))
+                (ap (λ i. get_or line i (pos 0)) place ∙ ran.changed (y / 2) ∙ column_at new_es w h (place_in_halves w x) (y / 2) (omega (arith, inside)))
             | inr odd ↦
                 let place : y ≡ 2 * (y / 2) + 1 = omega (arith, odd) in
                 rw (ne_eqb (y % 2) 0 odd)
-                (ap (λ i. get_or line i (pos 0)) place ∙ ran.read (y / 2) ∙ column_at new_os w h (place_of w x) (y / 2) (omega (arith, inside)))
+                (ap (λ i. get_or line i (pos 0)) place ∙ ran.read (y / 2) ∙ column_at new_os w h (place_in_halves w x) (y / 2) (omega (arith, inside)))
           ];
     })
 
@@ -161,9 +161,9 @@ told_within b w h f some each k d l =
 pub rows_small : (k first : ℕ) (t : Table) → k ≤ 6 → first ≤ 1 → t.width % 2 ≡ 0 → t.height % 2 ≡ 0 → 0 < t.width → length t.values ≡ t.width * t.height → All (λ v. unsigned_abs v ≤ 4095) t.values → All (λ v. unsigned_abs v ≤ 65523) (analysed_rows k first t).values
 unfolding analyse
 rows_small k first t l one across down some len all =
-    told_within 65523 t.width (t.height / 2) (λ x y. get_or (analyse k (begun k (row_in t.values t.width (2 * y + first)))) (column_of t.width x) (pos 0)) some (λ x y inside.
+    told_within 65523 t.width (t.height / 2) (λ x y. get_or (analyse k (first_doubled k (row_in t.values t.width (2 * y + first)))) (column_of t.width x) (pos 0)) some (λ x y inside.
     let row = row_in t.values t.width (2 * y + first) in
-    let size : length (begun k row) ≡ t.width = length-begun k row ∙ length-row t.values t.width t.height (2 * y + first) len (omega (arith, inside, down, one)) in
-    values_bound 65523 (run (taken_back (steps_of k)) (begun k row))
-    (analyse_grows k 8190 (begun k row) l (omega (arith, size, across)) (begun_bound k 4095 row (row_bound 4095 t.values t.width (2 * y + first) all)))
+    let size : length (first_doubled k row) ≡ t.width = length-begun k row ∙ length-row t.values t.width t.height (2 * y + first) len (omega (arith, inside, down, one)) in
+    values_bound 65523 (run (taken_back (steps_of k)) (first_doubled k row))
+    (analyse_grows k 8190 (first_doubled k row) l (omega (arith, size, across)) (begun_bound k 4095 row (row_bound 4095 t.values t.width (2 * y + first) all)))
     (column_of t.width x))

@@ -1,9 +1,9 @@
 -- That 32 bits are enough for a level of each wavelet whose values are at most 4095, for columns and then for rows.
-use Rattle.std.proofs.Common.{◌≡◌, ℕ, ℤ, pos, true, nat_le, ◌&&◌, ◌^◌, ◌-◌, [], ◌∷◌, ◌*◌, ◌<◌, ◌≤◌, ◌==◌, if◌then◌else◌, List, length, get_or, unsigned_abs, arith, refl, ap, sym, ◌∙◌, subst}
+use Rattle.std.proofs.Common.{◌≡◌, ℕ, ℤ, pos, true, nat_le, ◌&&◌, ◌^◌, ◌-◌, [], ◌∷◌, ◌≤◌, ◌==◌, if◌then◌else◌, List, length, get_or, unsigned_abs, arith, refl, ap, sym, ◌∙◌, subst}
 use Rattle.std.specs.List.{All}
 use Rattle.std.proofs.lemmas.Bool.{and_parts, leb-true}
 use Rattle.std.proofs.lemmas.List.{ext_get_or}
-use Rattle.dirac_lift.specs.Halves.{AreHalves}
+use Rattle.dirac_lift.specs.Halves.{AreHalvesOfLine}
 use Rattle.dirac_lift.specs.HalfRuns.{AreNarrow, HalvesRun, after_step, after_steps, is_narrow, stays_narrow}
 use Rattle.dirac_lift.specs.Lifting.{Step}
 use Rattle.dirac_lift.specs.Level.{column}
@@ -19,31 +19,20 @@ pub rows_narrow : (w : ℕ) → w ≤ 6 → (stays_narrow (steps_of w) ((after_s
 rows_narrow = by_wavelet (λ w ss. (stays_narrow ss ((after_steps ss (4095, 4095)).0, (after_steps ss (4095, 4095)).0) ≡ true) × (stays_narrow ss ((after_steps ss (4095, 4095)).1, (after_steps ss (4095, 4095)).1) ≡ true))
     (refl, refl) (refl, refl) (refl, refl) (refl, refl) (refl, refl) (refl, refl) (refl, refl)
 
-pub narrow_columns : (k w h : ℕ) (es os : List ℤ) → k ≤ 6 → 0 < w → length es ≡ w * h → length os ≡ w * h → All (λ v. unsigned_abs v ≤ 4095) es → All (λ v. unsigned_abs v ≤ 4095) os → AreNarrow (steps_of k) w h es os
-narrow_columns k w h es os l some le lo he ho = record {
-  some = some;
-  evens_len = le;
-  odds_len = lo;
-  most = (4095, 4095);
-  even_bound = he;
-  odd_bound = ho;
-  test = columns_narrow k l;
-}
-
 -- a single line is the only column of its values
 pub column_alone : (xs : List ℤ) (h : ℕ) → length xs ≡ h → column xs 1 h 0 ≡ xs
 column_alone xs h e = ext_get_or (pos 0) (column xs 1 h 0) xs (length-column xs 1 h 0 ∙ sym e) (λ i l.
     column_at xs 1 h 0 i (omega (arith, l, length-column xs 1 h 0)) ∙ ap (λ j. get_or xs j (pos 0)) (omega arith))
 
-pub ran_alone : (ss : List Step) (es os new_es new_os xs : List ℤ) → HalvesRun ss 1 (length es) es os new_es new_os → length os ≡ length es → AreHalves 0 es os xs → AreHalves 0 new_es new_os (run ss xs)
+pub ran_alone : (ss : List Step) (es os new_es new_os xs : List ℤ) → HalvesRun ss 1 (length es) es os new_es new_os → length os ≡ length es → AreHalvesOfLine 0 es os xs → AreHalvesOfLine 0 new_es new_os (run ss xs)
 ran_alone ss es os new_es new_os xs r len a =
-    let before : AreHalves 0 (column es 1 (length es) 0) (column os 1 (length es) 0) xs =
-    subst (λ ys. AreHalves 0 ys (column os 1 (length es) 0) xs) (sym (column_alone es (length es) refl)) (subst (λ ys. AreHalves 0 es ys xs) (sym (column_alone os (length es) len)) a) in
-    let after : AreHalves 0 (column new_es 1 (length es) 0) (column new_os 1 (length es) 0) (run ss xs) = r.each 0 xs (omega arith) before in
-    subst (λ ys. AreHalves 0 ys new_os (run ss xs)) (column_alone new_es (length es) r.evens_len)
-    (subst (λ ys. AreHalves 0 (column new_es 1 (length es) 0) ys (run ss xs)) (column_alone new_os (length es) (r.odds_len ∙ len)) after)
+    let before : AreHalvesOfLine 0 (column es 1 (length es) 0) (column os 1 (length es) 0) xs =
+    subst (λ ys. AreHalvesOfLine 0 ys (column os 1 (length es) 0) xs) (sym (column_alone es (length es) refl)) (subst (λ ys. AreHalvesOfLine 0 es ys xs) (sym (column_alone os (length es) len)) a) in
+    let after : AreHalvesOfLine 0 (column new_es 1 (length es) 0) (column new_os 1 (length es) 0) (run ss xs) = r.each 0 xs (omega arith) before in
+    subst (λ ys. AreHalvesOfLine 0 ys new_os (run ss xs)) (column_alone new_es (length es) r.evens_len)
+    (subst (λ ys. AreHalvesOfLine 0 (column new_es 1 (length es) 0) ys (run ss xs)) (column_alone new_os (length es) (r.odds_len ∙ len)) after)
 
-pub run_alone : (k : ℕ) (es os new_es new_os xs : List ℤ) → HalvesRun (steps_of k) 1 (length es) es os new_es new_os → length os ≡ length es → AreHalves 0 es os xs → AreHalves 0 new_es new_os (run (steps_of k) xs)
+pub run_alone : (k : ℕ) (es os new_es new_os xs : List ℤ) → HalvesRun (steps_of k) 1 (length es) es os new_es new_os → length os ≡ length es → AreHalvesOfLine 0 es os xs → AreHalvesOfLine 0 new_es new_os (run (steps_of k) xs)
 run_alone k = ran_alone (steps_of k)
 
 -- after all steps values are still small

@@ -1,5 +1,5 @@
 -- Halves of lines that are changed pair by pair, in 32 bits.
-use Rattle.std.proofs.Common.{◌≡◌, ℕ, ℤ, pos, ◌+◌, ◌-◌, ◌*◌, ◌/◌, ◌%◌, ◌^◌, ◌<◌, ◌≤◌, ◌+ℤ◌, ◌*ℤ◌, unsigned_abs, to_z, of_z, List, length, get_or, set, arith, refl, inl, inr, ap, sym, ◌∙◌, subst}
+use Rattle.std.proofs.Common.{◌≡◌, ℕ, ℤ, pos, ◌+◌, ◌-◌, ◌*◌, ◌/◌, ◌%◌, ◌^◌, ◌<◌, ◌≤◌, ◌+ℤ◌, ◌*ℤ◌, unsigned_abs, to_z, of_z, List, length, get_or, set, arith, inl, inr, ap, sym, ◌∙◌, subst}
 use Rattle.std.specs.Int.{w32}
 use Rattle.std.specs.List.{All, sum_by}
 use Rattle.std.proofs.lemmas.Int.{ints, to_z-of_z, fits_signed_from_abs, unsigned_abs-mul}
@@ -15,7 +15,7 @@ use Rattle.dirac_common.proofs.Shifts.{shr_sum_is}
 use Rattle.dirac_lift.specs.Lifting.{Step, moved, rounded, weighted}
 use Rattle.dirac_lift.specs.Halves.{HalfLifted, half_read, half_value}
 use Rattle.dirac_lift.proofs.Signed.{half_is, abs-rounded}
-use Rattle.dirac_lift.proofs.Weighted.{one_more_fits, abs-weighted}
+use Rattle.dirac_lift.proofs.Weighted.{one_more_fits, abs-weighted, weighted_more}
 
 -- a product that is added, and the sum
 pub product_fits : (sum tap value : ℤ) → unsigned_abs sum + unsigned_abs tap * unsigned_abs value ≤ 2 ^ 31 - 2 ^ 22 → SFits w32 (tap *ℤ value)
@@ -66,14 +66,20 @@ tap_fits taps f b most m sum tap value es et hv h l s =
 pub sum_fits : (taps : List ℤ) (f : ℕ → ℤ) (b most m : ℕ) (sum : ℤ) → sum ≡ weighted taps f m → m ≡ length taps → ((k : ℕ) → unsigned_abs (f k) ≤ b) → sum_by unsigned_abs taps * b ≤ most → unsigned_abs sum ≤ most
 sum_fits taps f b most m sum es em h s = rw (es, em) (omega (arith, s, abs-weighted taps f b h))
 
+-- a tap more that reads place i of a list: that it can be added, and the sum behind it
+pub read_fits : (taps reads : List ℤ) (f : ℕ → ℤ) (b most m i : ℕ) (sum : ℤ) → SFits w32 (get_or taps m (pos 0)) → SFits w32 (get_or reads i (pos 0)) → sum ≡ weighted taps f m → All (λ v. unsigned_abs v ≤ b) reads → ((k : ℕ) → unsigned_abs (f k) ≤ b) → m < length taps → sum_by unsigned_abs taps * b ≤ most → unsigned_abs sum + unsigned_abs (to_z w32 (of_z w32 (get_or taps m (pos 0)))) * unsigned_abs (to_z w32 (of_z w32 (get_or reads i (pos 0)))) ≤ most
+read_fits taps reads f b most m i sum ft fr es all h l s =
+    tap_fits taps f b most m sum (to_z w32 (of_z w32 (get_or taps m (pos 0)))) (to_z w32 (of_z w32 (get_or reads i (pos 0)))) es (to_z-of_z w32 _ ft) (abs-read_is b reads i _ all (to_z-of_z w32 _ fr)) h l s
+
+pub read_more : (taps reads : List ℤ) (f : ℕ → ℤ) (m i : ℕ) (sum next : ℤ) → SFits w32 (get_or taps m (pos 0)) → SFits w32 (get_or reads i (pos 0)) → SFits w32 next → sum ≡ weighted taps f m → get_or reads i (pos 0) ≡ f m → next ≡ sum +ℤ to_z w32 (of_z w32 (get_or taps m (pos 0))) *ℤ to_z w32 (of_z w32 (get_or reads i (pos 0))) → to_z w32 (of_z w32 next) ≡ weighted taps f (m + 1)
+read_more taps reads f m i sum next ft fr fn es er en =
+    weighted_more taps f m sum (to_z w32 (of_z w32 (get_or taps m (pos 0)))) (to_z w32 (of_z w32 (get_or reads i (pos 0)))) (to_z w32 (of_z w32 next)) es (to_z-of_z w32 _ ft) (to_z-of_z w32 _ fr ∙ er) (to_z-of_z w32 _ fn ∙ en)
+
 -- the pairs whose places are below i are changed
 pub record HalfBelow (s : Step) (w h : ℕ) (os rs ys : List ℤ) (i : ℕ) : Type 0 where
   pub len : length ys ≡ length os
   pub done : (m x : ℕ) → x < w → m * w + x < i → get_or ys (m * w + x) (pos 0) ≡ half_value s w h os rs m x
   pub rest : (k : ℕ) → i ≤ k → get_or ys k (pos 0) ≡ get_or os k (pos 0)
-
-pub half_none : (s : Step) (w h : ℕ) (os rs : List ℤ) → HalfBelow s w h os rs os 0
-half_none s w h os rs = record { len = refl; done = λ m x p l. absurd (omega (arith, l)); rest = λ k l. refl }
 
 pub half_more : (s : Step) (w h : ℕ) (os rs ys : List ℤ) (n p : ℕ) (v : ℤ) → HalfBelow s w h os rs ys (n * w + p) → p < w → n * w + p < length os → v ≡ half_value s w h ys rs n p → HalfBelow s w h os rs (set ys (n * w + p) v) (n * w + (p + 1))
 half_more s w h os rs ys n p v b l inside e = record {

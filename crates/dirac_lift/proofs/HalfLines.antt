@@ -4,11 +4,11 @@ use Rattle.std.proofs.lemmas.Bool.{cases_lt}
 use Rattle.std.proofs.lemmas.List.{get_or_past}
 use Rattle.dirac_lift.specs.Level.{column}
 use Rattle.dirac_lift.specs.Lifting.{Step, lift, moved, other, own, pair_read, rounded, value_read, change_at}
-use Rattle.dirac_lift.specs.Halves.{AreHalves, HalfLifted, half_read}
+use Rattle.dirac_lift.specs.Halves.{AreHalvesOfLine, HalfLifted, half_read}
 use Rattle.dirac_lift.proofs.ColumnLemmas.{column_at, length-column}
 use Rattle.dirac_lift.proofs.Lifted.{LiftedBelow, lift_below, weighted_same}
 
-pub halves_lifted : (s : Step) (w h x : ℕ) (os rs ys xs : List ℤ) → HalfLifted s w h os rs ys → x < w → s.parity ≤ 1 → AreHalves s.parity (column os w h x) (column rs w h x) xs → AreHalves s.parity (column ys w h x) (column rs w h x) (lift s xs)
+pub halves_lifted : (s : Step) (w h x : ℕ) (os rs ys xs : List ℤ) → HalfLifted s w h os rs ys → x < w → s.parity ≤ 1 → AreHalvesOfLine s.parity (column os w h x) (column rs w h x) xs → AreHalvesOfLine s.parity (column ys w h x) (column rs w h x) (lift s xs)
 halves_lifted s w h x os rs ys xs l xw p a =
     let size : length xs ≡ 2 * h = omega (arith, a.len, length-column os w h x) in
     let below : LiftedBelow s xs (lift s xs) (length xs / 2) = lift_below s xs p (omega (arith, size)) in

@@ -8,52 +8,52 @@ use Rattle.std.proofs.lemmas.List.FromFn.{length-map-range_with_len}
 use Rattle.std.proofs.lemmas.Simd.{map-map}
 use Rattle.dirac_common.specs.Table.{Table, filled, table_of}
 use Rattle.dirac_common.proofs.Rows.{filled_at}
-use Rattle.dirac_lift.specs.Halves.{AreHalves, from_halves, place_of}
+use Rattle.dirac_lift.specs.Halves.{AreHalvesOfLine, from_halves, place_in_halves}
 use Rattle.dirac_lift.specs.HalfRuns.{AreNarrow, stays_narrow}
-use Rattle.dirac_lift.specs.Level.{column, columns_by, ended, halved, row_in, synthesised}
+use Rattle.dirac_lift.specs.Level.{column, columns_by, last_halved, halved, row_in, synthesised}
 use Rattle.dirac_lift.specs.Lifting.{own}
 use Rattle.dirac_lift.specs.Wavelets.{has_shift, steps_of, synth}
 use Rattle.dirac_lift.proofs.ColumnLemmas.{column_at, length-column}
 use Rattle.dirac_lift.proofs.RowLemmas.{row_at, row_bound}
 
-pub place_even : (w m x : ℕ) → x ≡ 2 * m → place_of w x ≡ m
+pub place_even : (w m x : ℕ) → x ≡ 2 * m → place_in_halves w x ≡ m
 place_even w m x e =
     let rem : x % 2 ≡ 0 = omega (arith, e) in
     let quot : x / 2 ≡ m = omega (arith, e) in
     rw (eq-eqb (x % 2) 0 rem) quot
 
-pub place_odd : (w m x : ℕ) → x ≡ 2 * m + 1 → place_of w x ≡ w / 2 + m
+pub place_odd : (w m x : ℕ) → x ≡ 2 * m + 1 → place_in_halves w x ≡ w / 2 + m
 place_odd w m x e =
     let rem : x % 2 ≢ 0 = λ z. omega (arith, e, z) in
     let quot : x / 2 ≡ m = omega (arith, e) in
     rw (ne_eqb (x % 2) 0 rem) (ap (λ i. w / 2 + i) quot)
 
-pub place_in : (w x : ℕ) → x < w → w % 2 ≡ 0 → place_of w x < w
+pub place_in : (w x : ℕ) → x < w → w % 2 ≡ 0 → place_in_halves w x < w
 place_in w x l even = elim (cases_eq (x % 2) 0) [
   | inl none ↦ rw (eq-eqb (x % 2) 0 none) (omega (arith, l))
   | inr one ↦ rw (ne_eqb (x % 2) 0 one) (omega (arith, l, even, one))
 ]
 
 -- the values of such a plane
-pub even_place : (w h : ℕ) (es os : List ℤ) (x n : ℕ) → x < w → n < h → get_or (from_halves w h es os).values ((2 * n) * w + x) (pos 0) ≡ get_or es (n * w + place_of w x) (pos 0)
+pub even_place : (w h : ℕ) (es os : List ℤ) (x n : ℕ) → x < w → n < h → get_or (from_halves w h es os).values ((2 * n) * w + x) (pos 0) ≡ get_or es (n * w + place_in_halves w x) (pos 0)
 even_place w h es os x n l k =
     let rem : (2 * n) % 2 ≡ 0 = omega arith in
     let quot : (2 * n) / 2 ≡ n = omega arith in
-    filled_at (λ x y. get_or (if y % 2 == 0 then es else os) (y / 2 * w + place_of w x) (pos 0)) w (2 * h) x (2 * n) l (omega (arith, k))
+    filled_at (λ x y. get_or (if y % 2 == 0 then es else os) (y / 2 * w + place_in_halves w x) (pos 0)) w (2 * h) x (2 * n) l (omega (arith, k))
     ∙ rw (eq-eqb ((2 * n) % 2) 0 rem, quot) refl
 
-pub odd_place : (w h : ℕ) (es os : List ℤ) (x n : ℕ) → x < w → n < h → get_or (from_halves w h es os).values ((2 * n + 1) * w + x) (pos 0) ≡ get_or os (n * w + place_of w x) (pos 0)
+pub odd_place : (w h : ℕ) (es os : List ℤ) (x n : ℕ) → x < w → n < h → get_or (from_halves w h es os).values ((2 * n + 1) * w + x) (pos 0) ≡ get_or os (n * w + place_in_halves w x) (pos 0)
 odd_place w h es os x n l k =
     let rem : (2 * n + 1) % 2 ≢ 0 = λ z. omega (arith, z) in
     let quot : (2 * n + 1) / 2 ≡ n = omega arith in
-    filled_at (λ x y. get_or (if y % 2 == 0 then es else os) (y / 2 * w + place_of w x) (pos 0)) w (2 * h) x (2 * n + 1) l (omega (arith, k))
+    filled_at (λ x y. get_or (if y % 2 == 0 then es else os) (y / 2 * w + place_in_halves w x) (pos 0)) w (2 * h) x (2 * n + 1) l (omega (arith, k))
     ∙ rw (ne_eqb ((2 * n + 1) % 2) 0 rem, quot) refl
 
 -- its columns, by their halves
-pub column_halves : (w h : ℕ) (es os : List ℤ) (x : ℕ) → x < w → AreHalves 0 (column es w h (place_of w x)) (column os w h (place_of w x)) (column (from_halves w h es os).values w (2 * h) x)
+pub column_halves : (w h : ℕ) (es os : List ℤ) (x : ℕ) → x < w → AreHalvesOfLine 0 (column es w h (place_in_halves w x)) (column os w h (place_in_halves w x)) (column (from_halves w h es os).values w (2 * h) x)
 column_halves w h es os x l =
     let ps = (from_halves w h es os).values in
-    let p = place_of w x in
+    let p = place_in_halves w x in
     record {
       len = length-column ps w (2 * h) x ∙ ap (λ k. 2 * k) (sym (length-column es w h p));
       alike = length-column os w h p ∙ sym (length-column es w h p);
@@ -84,7 +84,7 @@ abbrev pub lifted_columns : ℕ → ℕ → ℕ → List ℤ → List ℤ → Ta
 lifted_columns k w h es os = columns_by (synth k) (from_halves w h es os)
 
 -- a row by its halves
-pub row_halves : (w : ℕ) (ps es : List ℤ) (n y : ℕ) → w % 2 ≡ 0 → length (row_in ps w y) ≡ w → length (row_in es w n) ≡ w → ((x : ℕ) → x < w → get_or ps (y * w + x) (pos 0) ≡ get_or es (n * w + place_of w x) (pos 0)) → AreHalves 0 (take (w / 2) (row_in es w n)) (drop (w / 2) (row_in es w n)) (row_in ps w y)
+pub row_halves : (w : ℕ) (ps es : List ℤ) (n y : ℕ) → w % 2 ≡ 0 → length (row_in ps w y) ≡ w → length (row_in es w n) ≡ w → ((x : ℕ) → x < w → get_or ps (y * w + x) (pos 0) ≡ get_or es (n * w + place_in_halves w x) (pos 0)) → AreHalvesOfLine 0 (take (w / 2) (row_in es w n)) (drop (w / 2) (row_in es w n)) (row_in ps w y)
 row_halves w ps es n y even lp le each =
     let front : length (take (w / 2) (row_in es w n)) ≡ w / 2 = length-take-le (w / 2) (row_in es w n) (omega (arith, le)) in
     let back : length (drop (w / 2) (row_in es w n)) ≡ w / 2 = omega (arith, length-drop (w / 2) (row_in es w n), le, even) in
@@ -145,8 +145,8 @@ unfolding filled
 filled_len w h f = length-map-range_with_len (λ p. f (p % w) (p / w)) 0 (w * h)
 
 -- a line that is finished from its halves is a row of the level
-pub line_at : (k w h y x : ℕ) (es os line half_es half_os : List ℤ) → ((whole : List ℤ) → AreHalves 0 half_es half_os whole → line ≡ ended k (synth k whole))
-    → AreHalves 0 half_es half_os (row_in (lifted_columns k w h es os).values w y)
+pub line_at : (k w h y x : ℕ) (es os line half_es half_os : List ℤ) → ((whole : List ℤ) → AreHalvesOfLine 0 half_es half_os whole → line ≡ last_halved k (synth k whole))
+    → AreHalvesOfLine 0 half_es half_os (row_in (lifted_columns k w h es os).values w y)
     → get_or line x (pos 0) ≡ level_at k w h es os x y
 line_at k w h y x es os line half_es half_os each a =
     ap (λ zs. get_or zs x (pos 0)) (each (row_in (lifted_columns k w h es os).values w y) a)

@@ -7,8 +7,8 @@ use Rattle.std.proofs.lemmas.List.{get_or_default}
 use Rattle.dirac_common.proofs.Bounds.{all_weaker}
 use Rattle.dirac_bands.proofs.Sizes.{div_mono}
 use Rattle.dirac_lift.specs.Level.{column}
-use Rattle.dirac_lift.specs.Lifting.{Step, grown, lift, rounded, weighted}
-use Rattle.dirac_lift.specs.Halves.{AreHalves, HalfLifted, IsReadable, half_read, half_value}
+use Rattle.dirac_lift.specs.Lifting.{Step, grown_by_step, lift, rounded, weighted}
+use Rattle.dirac_lift.specs.Halves.{AreHalvesOfLine, HalfLifted, IsReadable, half_read, half_value}
 use Rattle.dirac_lift.specs.HalfRuns.{AreNarrow, HalvesRun, after_step, is_narrow, stays_narrow}
 use Rattle.dirac_lift.proofs.Growth.{abs-moved}
 use Rattle.dirac_lift.proofs.HalfLemmas.{abs-read}
@@ -17,7 +17,7 @@ use Rattle.dirac_lift.proofs.Signed.{abs-rounded}
 use Rattle.dirac_lift.proofs.Weighted.{abs-weighted}
 
 -- how large a changed half becomes
-pub half_grown : (s : Step) (w h a b : ℕ) (os rs ys : List ℤ) → HalfLifted s w h os rs ys → length os ≡ w * h → 0 < w → All (λ v. unsigned_abs v ≤ a) os → All (λ v. unsigned_abs v ≤ b) rs → All (λ v. unsigned_abs v ≤ grown s a b) ys
+pub half_grown : (s : Step) (w h a b : ℕ) (os rs ys : List ℤ) → HalfLifted s w h os rs ys → length os ≡ w * h → 0 < w → All (λ v. unsigned_abs v ≤ a) os → All (λ v. unsigned_abs v ≤ b) rs → All (λ v. unsigned_abs v ≤ grown_by_step s a b) ys
 half_grown s w h a b os rs ys l len some ha hb k d inside =
     let place : (k / w) * w + k % w ≡ k = div-add-mod' k w in
     let row : k / w < h = div_below k w h some (omega (arith, inside, len, l.len)) in
@@ -34,7 +34,7 @@ half_grown s w h a b os rs ys l len some ha hb k d inside =
     ))
 
 -- the two halves of a line, told the other way round
-turned : (os rs xs : List ℤ) → AreHalves 0 os rs xs → AreHalves 1 rs os xs
+turned : (os rs xs : List ℤ) → AreHalvesOfLine 0 os rs xs → AreHalvesOfLine 1 rs os xs
 turned os rs xs a = record {
   len = a.len ∙ ap (λ k. 2 * k) (sym a.alike);
   alike = sym a.alike;
@@ -42,7 +42,7 @@ turned os rs xs a = record {
   read = a.changed;
 }
 
-turned_back : (os rs xs : List ℤ) → AreHalves 1 os rs xs → AreHalves 0 rs os xs
+turned_back : (os rs xs : List ℤ) → AreHalvesOfLine 1 os rs xs → AreHalvesOfLine 0 rs os xs
 turned_back os rs xs a = record {
   len = a.len ∙ ap (λ k. 2 * k) (sym a.alike);
   alike = sym a.alike;
@@ -67,29 +67,20 @@ after_grows : (b : Bool) (e o g k : ℕ) (r : ℕ × ℕ) → r ≡ (if b then (
 after_grows true e o g k r is l m = (omega (arith, l, ap (λ (p : ℕ × ℕ). p.0) is), omega (arith, ap (λ (p : ℕ × ℕ). p.1) is))
 after_grows false e o g k r is l m = (omega (arith, ap (λ (p : ℕ × ℕ). p.0) is), omega (arith, m, ap (λ (p : ℕ × ℕ). p.1) is))
 
-in_32_bits : (ss : List Step) (most : ℕ × ℕ) → stays_narrow ss most ≡ true → (most.0 ≤ 2 ^ 31 - 2 ^ 22) × (most.1 ≤ 2 ^ 31 - 2 ^ 22)
+pub in_32_bits : (ss : List Step) (most : ℕ × ℕ) → stays_narrow ss most ≡ true → (most.0 ≤ 2 ^ 31 - 2 ^ 22) × (most.1 ≤ 2 ^ 31 - 2 ^ 22)
 in_32_bits [] most t =
     let a = and_parts (nat_le most.0 (2 ^ 31 - 2 ^ 22)) (nat_le most.1 (2 ^ 31 - 2 ^ 22)) t in
     (leb-true most.0 (2 ^ 31 - 2 ^ 22) a.0, leb-true most.1 (2 ^ 31 - 2 ^ 22) a.1)
 in_32_bits (s ∷ ss) most t =
     let rest = in_32_bits ss (after_step s most) (and_parts (if s.parity == 0 then is_narrow s most.0 most.1 else (nat_le s.parity 1 && is_narrow s most.1 most.0)) (stays_narrow ss (after_step s most)) t).1 in
-    let more = after_grows (s.parity == 0) most.0 most.1 (grown s most.0 most.1) (grown s most.1 most.0) (after_step s most) refl (omega arith) (omega arith) in
+    let more = after_grows (s.parity == 0) most.0 most.1 (grown_by_step s most.0 most.1) (grown_by_step s most.1 most.0) (after_step s most) refl (omega arith) (omega arith) in
     (omega (arith, rest.0, more.0), omega (arith, rest.1, more.1))
 
-pub even_readable : (m : Bool) (sh ld : ℕ) (ts : List ℤ) (ss : List Step) (w h : ℕ) (es os : List ℤ) → AreNarrow (even_step m sh ld ts ∷ ss) w h es os → IsReadable ts os
-even_readable m sh ld ts ss w h es os n =
-    let s : Step = even_step m sh ld ts in
-    record { bound = n.most.1; within = n.odd_bound; in_32_bits = omega (arith, (in_32_bits (s ∷ ss) n.most n.test).1); fits = (narrow_parts s n.most.0 n.most.1 (and_parts (is_narrow s n.most.0 n.most.1) (stays_narrow ss (after_step s n.most)) n.test).0).2 }
-
-pub even_changed : (m : Bool) (sh ld : ℕ) (ts : List ℤ) (ss : List Step) (w h : ℕ) (es os : List ℤ) → AreNarrow (even_step m sh ld ts ∷ ss) w h es os → All (λ v. unsigned_abs v ≤ 2 ^ 21) es
-even_changed m sh ld ts ss w h es os n =
-    let s : Step = even_step m sh ld ts in
-    all_weaker n.most.0 (2 ^ 21) es ((narrow_parts s n.most.0 n.most.1 (and_parts (is_narrow s n.most.0 n.most.1) (stays_narrow ss (after_step s n.most)) n.test).0).1) n.even_bound
-
-pub even_shift : (m : Bool) (sh ld : ℕ) (ts : List ℤ) (ss : List Step) (w h : ℕ) (es os : List ℤ) → AreNarrow (even_step m sh ld ts ∷ ss) w h es os → sh ≤ 12
-even_shift m sh ld ts ss w h es os n =
-    let s : Step = even_step m sh ld ts in
-    (narrow_parts s n.most.0 n.most.1 (and_parts (is_narrow s n.most.0 n.most.1) (stays_narrow ss (after_step s n.most)) n.test).0).0
+-- so a step can be run: on the values that it changes, and those that it reads
+pub step_fits : (s : Step) (a b : ℕ) (os rs : List ℤ) → is_narrow s a b ≡ true → b ≤ 2 ^ 31 - 2 ^ 22 → All (λ v. unsigned_abs v ≤ a) os → All (λ v. unsigned_abs v ≤ b) rs → (s.shift ≤ 12) × IsReadable s.taps rs × All (λ v. unsigned_abs v ≤ 2 ^ 21) os
+step_fits s a b os rs t small ho hr =
+    let p = narrow_parts s a b t in
+    (p.0, record { bound = b; within = hr; in_32_bits = omega (arith, small); fits = p.2 }, all_weaker a (2 ^ 21) os p.1 ho)
 
 pub even_rest : (m : Bool) (sh ld : ℕ) (ts : List ℤ) (ss : List Step) (w h : ℕ) (es os new : List ℤ) → AreNarrow (even_step m sh ld ts ∷ ss) w h es os → HalfLifted (even_step m sh ld ts) w h es os new → AreNarrow ss w h new os
 even_rest m sh ld ts ss w h es os new n l =
@@ -111,25 +102,10 @@ even_run m sh ld ts ss w h es os new es2 os2 n l r =
       evens_len = r.evens_len ∙ l.len;
       odds_len = r.odds_len;
       each = λ x xs lt a. r.each x (lift s xs) lt (halves_lifted s w h x es os new xs l lt (omega arith) a);
-      grow = λ most he ho. r.grow (grown s most.0 most.1, most.1) (half_grown s w h most.0 most.1 es os new l n.evens_len n.some he ho) ho;
+      grow = λ most he ho. r.grow (grown_by_step s most.0 most.1, most.1) (half_grown s w h most.0 most.1 es os new l n.evens_len n.some he ho) ho;
     }
 
 -- a step of the odd places
-pub odd_readable : (m : Bool) (sh ld : ℕ) (ts : List ℤ) (ss : List Step) (w h : ℕ) (es os : List ℤ) → AreNarrow (odd_step m sh ld ts ∷ ss) w h es os → IsReadable ts es
-odd_readable m sh ld ts ss w h es os n =
-    let s : Step = odd_step m sh ld ts in
-    record { bound = n.most.0; within = n.even_bound; in_32_bits = omega (arith, (in_32_bits (s ∷ ss) n.most n.test).0); fits = (narrow_parts s n.most.1 n.most.0 (and_parts (is_narrow s n.most.1 n.most.0) (stays_narrow ss (after_step s n.most)) n.test).0).2 }
-
-pub odd_changed : (m : Bool) (sh ld : ℕ) (ts : List ℤ) (ss : List Step) (w h : ℕ) (es os : List ℤ) → AreNarrow (odd_step m sh ld ts ∷ ss) w h es os → All (λ v. unsigned_abs v ≤ 2 ^ 21) os
-odd_changed m sh ld ts ss w h es os n =
-    let s : Step = odd_step m sh ld ts in
-    all_weaker n.most.1 (2 ^ 21) os ((narrow_parts s n.most.1 n.most.0 (and_parts (is_narrow s n.most.1 n.most.0) (stays_narrow ss (after_step s n.most)) n.test).0).1) n.odd_bound
-
-pub odd_shift : (m : Bool) (sh ld : ℕ) (ts : List ℤ) (ss : List Step) (w h : ℕ) (es os : List ℤ) → AreNarrow (odd_step m sh ld ts ∷ ss) w h es os → sh ≤ 12
-odd_shift m sh ld ts ss w h es os n =
-    let s : Step = odd_step m sh ld ts in
-    (narrow_parts s n.most.1 n.most.0 (and_parts (is_narrow s n.most.1 n.most.0) (stays_narrow ss (after_step s n.most)) n.test).0).0
-
 pub odd_rest : (m : Bool) (sh ld : ℕ) (ts : List ℤ) (ss : List Step) (w h : ℕ) (es os new : List ℤ) → AreNarrow (odd_step m sh ld ts ∷ ss) w h es os → HalfLifted (odd_step m sh ld ts) w h os es new → AreNarrow ss w h es new
 odd_rest m sh ld ts ss w h es os new n l =
     let s : Step = odd_step m sh ld ts in
@@ -150,7 +126,7 @@ odd_run m sh ld ts ss w h es os new es2 os2 n l r =
       evens_len = r.evens_len;
       odds_len = r.odds_len ∙ l.len;
       each = λ x xs lt a. r.each x (lift s xs) lt (turned_back (column new w h x) (column es w h x) (lift s xs) (halves_lifted s w h x os es new xs l lt (omega arith) (turned (column es w h x) (column os w h x) xs a)));
-      grow = λ most he ho. r.grow (most.0, grown s most.1 most.0) he (half_grown s w h most.1 most.0 os es new l n.odds_len n.some ho he);
+      grow = λ most he ho. r.grow (most.0, grown_by_step s most.1 most.0) he (half_grown s w h most.1 most.0 os es new l n.odds_len n.some ho he);
     }
 
 pub no_run : (w h : ℕ) (es os : List ℤ) → HalvesRun [] w h es os es os

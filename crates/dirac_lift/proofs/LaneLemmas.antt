@@ -1,5 +1,5 @@
 -- What operations on eight lanes leave in each of them.
-use Rattle.std.proofs.Common.{◌≡◌, ℕ, zero, suc, ℤ, pos, negsuc, ◌+◌, ◌*◌, ◌^◌, ◌<◌, ◌≤◌, ◌+ℤ◌, ◌-ℤ◌, unsigned_abs, List, [], ◌∷◌, ◌++◌, length, get_or, map, to_z, of_z, arith, ap, ap₂, sym, refl, subst, ◌∙◌}
+use Rattle.std.proofs.Common.{◌≡◌, ℕ, zero, suc, ℤ, pos, negsuc, ◌+◌, ◌*◌, ◌^◌, ◌<◌, ◌≤◌, ◌+ℤ◌, unsigned_abs, List, [], ◌∷◌, ◌++◌, length, get_or, map, to_z, of_z, arith, ap, ap₂, sym, refl, subst, ◌∙◌}
 use Rattle.std.specs.Int.{w32, int_shr}
 use Rattle.std.proofs.lemmas.Int.{ints, to_z-of_z, fits_signed_from_abs}
 use Rattle.std.proofs.lemmas.List.{length-map, get_or-map, get_or_append_left, get_or-append-add}
@@ -80,12 +80,9 @@ fits_by g f h a b x y fit = each_pair (λ x y. SFits w32 (g (to_z w32 x) (to_z w
 pub same_number : (x y : ℤ) → x ≡ y → unsigned_abs y < 2 ^ 31 → to_z w32 (of_z w32 x) ≡ y
 same_number x y e l = ap (λ z. to_z w32 (of_z w32 z)) e ∙ to_z-of_z w32 y (fits_signed_from_abs w32 y l)
 
--- sums and differences that are small enough
+-- sums that are small enough
 pub sum_fits : (x y : ℤ) → unsigned_abs x + unsigned_abs y < 2 ^ 31 → SFits w32 (x +ℤ y)
 sum_fits x y l = fits_signed_from_abs w32 (x +ℤ y) (omega (arith, ints, l))
-
-pub difference_fits : (x y : ℤ) → unsigned_abs x + unsigned_abs y < 2 ^ 31 → SFits w32 (x -ℤ y)
-difference_fits x y l = fits_signed_from_abs w32 (x -ℤ y) (omega (arith, ints, l))
 
 -- vectors that are shifted down
 abs-shifted : (x : ℤ) (m : ℕ) → 0 < m → unsigned_abs x < 2 ^ 31 → unsigned_abs (shr_z x m) < 2 ^ 31

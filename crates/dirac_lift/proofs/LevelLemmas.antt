@@ -6,7 +6,7 @@ use Rattle.std.proofs.lemmas.List.{get_or_default, get_or-map, ext_get_or, take_
 use lib.Signed.{shr_z}
 use Rattle.dirac_common.specs.Table.{Table, with_values, filled}
 use Rattle.dirac_bands.specs.DcSum.{by_rows}
-use Rattle.dirac_lift.specs.Level.{column, row_in, halved, doubled, ended, begun, synthesised, analysed}
+use Rattle.dirac_lift.specs.Level.{column, row_in, halved, doubled, last_halved, first_doubled, synthesised, analysed}
 use Rattle.dirac_lift.specs.Places.{ColumnsBecome, ColumnsSafe, RowsBecome}
 use Rattle.dirac_lift.specs.Wavelets.{run, taken_back, steps_of, has_shift, synth, analyse, synth_bound, analyse_bound}
 use Rattle.dirac_lift.proofs.ColumnLemmas.{length-column, column_bound, columns_bound, columns_values}
@@ -80,14 +80,14 @@ twice_bound : (s : Bool) (b k : ℕ) → s ≡ has_shift k → synth_bound k (sy
 twice_bound true b k e = rw (← e) refl
 twice_bound false b k e = rw (← e) refl
 
-pub level_bound : (k b : ℕ) (xs : List ℤ) → All (λ v. unsigned_abs v ≤ synth_bound k (synth_bound k b)) xs → All (λ v. unsigned_abs v ≤ 72 * b + 40) (ended k xs)
+pub level_bound : (k b : ℕ) (xs : List ℤ) → All (λ v. unsigned_abs v ≤ synth_bound k (synth_bound k b)) xs → All (λ v. unsigned_abs v ≤ 72 * b + 40) (last_halved k xs)
 level_bound k b xs all = ended_bound (has_shift k) b (synth_bound k (synth_bound k b)) xs (twice_bound (has_shift k) b k refl) all
 
 begun_with : (s : Bool) (b : ℕ) (xs : List ℤ) → All (λ v. unsigned_abs v ≤ b) xs → All (λ v. unsigned_abs v ≤ 2 * b) (if s then map doubled xs else xs)
 begun_with true b xs all = all_mapped b (2 * b) doubled xs (λ v h. omega (arith, ints, h)) all
 begun_with false b xs all = λ k d l. omega (arith, all k d l)
 
-pub begun_bound : (k b : ℕ) (xs : List ℤ) → All (λ v. unsigned_abs v ≤ b) xs → All (λ v. unsigned_abs v ≤ 2 * b) (begun k xs)
+pub begun_bound : (k b : ℕ) (xs : List ℤ) → All (λ v. unsigned_abs v ≤ b) xs → All (λ v. unsigned_abs v ≤ 2 * b) (first_doubled k xs)
 begun_bound k = begun_with (has_shift k)
 
 -- halving takes doubling back
@@ -107,14 +107,14 @@ ended_begun_with true xs =
     ∙ half_twice (get_or xs i (pos 0)) ((get_or xs i (pos 0) +ℤ get_or xs i (pos 0)) +ℤ pos 1) refl)
 ended_begun_with false xs = refl
 
-ended_begun : (k : ℕ) (xs : List ℤ) → ended k (begun k xs) ≡ xs
+ended_begun : (k : ℕ) (xs : List ℤ) → last_halved k (first_doubled k xs) ≡ xs
 ended_begun k = ended_begun_with (has_shift k)
 
 length-begun_with : (s : Bool) (xs : List ℤ) → length (if s then map doubled xs else xs) ≡ length xs
 length-begun_with true xs = length-map xs doubled
 length-begun_with false xs = refl
 
-pub length-begun : (k : ℕ) (xs : List ℤ) → length (begun k xs) ≡ length xs
+pub length-begun : (k : ℕ) (xs : List ℤ) → length (first_doubled k xs) ≡ length xs
 length-begun k = length-begun_with (has_shift k)
 
 -- the value of a level
@@ -126,17 +126,17 @@ analyse_columns_by : (k w h : ℕ) (xs ys : List ℤ) → ColumnsBecome (run (ta
 unfolding analyse
 analyse_columns_by k w h xs ys c = record { len = c.len; each = c.each }
 
-pub level_value : (k w h : ℕ) (xs ys zs : List ℤ) → length xs ≡ w * h → 1 ≤ w → ColumnsBecome (run (steps_of k)) w h xs ys → RowsBecome (synth k) w h ys zs → ended k zs ≡ (synthesised k (by_rows w h xs)).values
+pub level_value : (k w h : ℕ) (xs ys zs : List ℤ) → length xs ≡ w * h → 1 ≤ w → ColumnsBecome (run (steps_of k)) w h xs ys → RowsBecome (synth k) w h ys zs → last_halved k zs ≡ (synthesised k (by_rows w h xs)).values
 level_value k w h xs ys zs len one columns rows =
-    ap (ended k)
+    ap (last_halved k)
     (rows_values (synth k) w h ys zs rows (columns.len ∙ len) (omega arith)
     ∙ ap (λ vs. filled w h (λ x y. get_or (synth k (row_in vs w y)) x (pos 0))) (columns_values (synth k) w h xs ys (synth_columns_by k w h xs ys columns) len (omega arith)))
 
-pub analysis_value : (k w h : ℕ) (xs ys zs : List ℤ) → length xs ≡ w * h → 1 ≤ w → RowsBecome (analyse k) w h (begun k xs) ys → ColumnsBecome (run (taken_back (steps_of k))) w h ys zs → zs ≡ (analysed k (by_rows w h xs)).values
+pub analysis_value : (k w h : ℕ) (xs ys zs : List ℤ) → length xs ≡ w * h → 1 ≤ w → RowsBecome (analyse k) w h (first_doubled k xs) ys → ColumnsBecome (run (taken_back (steps_of k))) w h ys zs → zs ≡ (analysed k (by_rows w h xs)).values
 analysis_value k w h xs ys zs len one rows columns =
     columns_values (analyse k) w h ys zs (analyse_columns_by k w h ys zs columns) (rows.len ∙ length-begun k xs ∙ len) (omega arith)
     ∙ ap (λ vs. filled w h (λ x y. get_or (analyse k (column vs w h x)) y (pos 0)))
-    (rows_values (analyse k) w h (begun k xs) ys rows (length-begun k xs ∙ len) (omega arith))
+    (rows_values (analyse k) w h (first_doubled k xs) ys rows (length-begun k xs ∙ len) (omega arith))
 
 -- synthesis takes analysis back
 rows_turned : (k w h : ℕ) (xs ys : List ℤ) → k ≤ 6 → w % 2 ≡ 0 → length xs ≡ w * h → RowsBecome (analyse k) w h xs ys → RowsBecome (synth k) w h ys xs
@@ -156,11 +156,11 @@ columns_turned k w h xs ys l even columns = record {
       ∙ run_there (steps_of k) (column xs w h x) (parities_of k l) (omega (arith, even, length-column xs w h x)));
 }
 
-pub level_undone : (k w h : ℕ) (xs ys zs : List ℤ) → k ≤ 6 → w % 2 ≡ 0 → h % 2 ≡ 0 → length xs ≡ w * h → 1 ≤ w → RowsBecome (analyse k) w h (begun k xs) ys → ColumnsBecome (run (taken_back (steps_of k))) w h ys zs → (synthesised k (by_rows w h zs)).values ≡ xs
+pub level_undone : (k w h : ℕ) (xs ys zs : List ℤ) → k ≤ 6 → w % 2 ≡ 0 → h % 2 ≡ 0 → length xs ≡ w * h → 1 ≤ w → RowsBecome (analyse k) w h (first_doubled k xs) ys → ColumnsBecome (run (taken_back (steps_of k))) w h ys zs → (synthesised k (by_rows w h zs)).values ≡ xs
 level_undone k w h xs ys zs l across down len one rows columns =
-    sym (level_value k w h zs ys (begun k xs) (columns.len ∙ rows.len ∙ length-begun k xs ∙ len) one
+    sym (level_value k w h zs ys (first_doubled k xs) (columns.len ∙ rows.len ∙ length-begun k xs ∙ len) one
     (columns_turned k w h ys zs l down columns)
-    (rows_turned k w h (begun k xs) ys l across (length-begun k xs ∙ len) rows))
+    (rows_turned k w h (first_doubled k xs) ys l across (length-begun k xs ∙ len) rows))
     ∙ ended_begun k xs
 
 -- a table whose values were lent

@@ -9,7 +9,6 @@ pub mod HalfLines
 pub mod HalfPlanes
 pub mod HalfSteps
 pub mod LaneLemmas
-pub mod LaneSteps
 pub mod LevelGrowth
 pub mod LevelLemmas
 pub mod Liftables
@@ -23,7 +22,6 @@ pub mod RingRuns
 pub mod RowLemmas
 pub mod Runs
 pub mod Signed
-pub mod Strips
 pub mod TurnBounds
 pub mod Turns
 pub mod Undone

@@ -13,7 +13,7 @@ use Rattle.dirac_lift.specs.Running.{CanRun}
 use Rattle.dirac_lift.specs.Safety.{AreFit, Safe}
 use Rattle.dirac_lift.specs.Wavelets.{run}
 use Rattle.dirac_lift.proofs.ColumnRuns.{become_none, become_run, safe_first, safe_rest}
-use Rattle.dirac_lift.proofs.HalfSteps.{even_changed, even_readable, even_rest, even_run, even_shift, no_run, odd_changed, odd_readable, odd_rest, odd_run, odd_shift}
+use Rattle.dirac_lift.proofs.HalfSteps.{even_rest, even_run, in_32_bits, no_run, odd_rest, odd_run, step_fits}
 use Rattle.dirac_lift.proofs.Lifted.{length-lift}
 
 -- a line
@@ -73,22 +73,14 @@ no_parity p m sh ld ts ss h n =
     absurd (omega (arith, leb-true (suc (suc p)) 1 (and_parts (nat_le (suc (suc p)) 1) (is_narrow s n.most.1 n.most.0) second).0))
 
 can_first : (p : ℕ) (m : Bool) (sh ld : ℕ) (ts : List ℤ) (ss : List Step) (h : Halves) → NarrowHalves (step p m sh ld ts ∷ ss) h → CanLiftHalves (step p m sh ld ts) h
-can_first zero m sh ld ts ss h n = record {
-  parity = omega arith;
-  shift = even_shift m sh ld ts ss h.width h.half h.evens.now h.odds.now n;
-  evens_len = n.evens_len;
-  odds_len = n.odds_len;
-  read = even_readable m sh ld ts ss h.width h.half h.evens.now h.odds.now n;
-  changed = even_changed m sh ld ts ss h.width h.half h.evens.now h.odds.now n;
-}
-can_first (suc zero) m sh ld ts ss h n = record {
-  parity = omega arith;
-  shift = odd_shift m sh ld ts ss h.width h.half h.evens.now h.odds.now n;
-  evens_len = n.evens_len;
-  odds_len = n.odds_len;
-  read = odd_readable m sh ld ts ss h.width h.half h.evens.now h.odds.now n;
-  changed = odd_changed m sh ld ts ss h.width h.half h.evens.now h.odds.now n;
-}
+can_first zero m sh ld ts ss h n =
+    let s : Step = step 0 m sh ld ts in
+    let f = step_fits s n.most.0 n.most.1 h.evens.now h.odds.now (and_parts (is_narrow s n.most.0 n.most.1) (stays_narrow ss (after_step s n.most)) n.test).0 (in_32_bits (s ∷ ss) n.most n.test).1 n.even_bound n.odd_bound in
+    record { parity = omega arith; shift = f.0; evens_len = n.evens_len; odds_len = n.odds_len; read = f.1; changed = f.2 }
+can_first (suc zero) m sh ld ts ss h n =
+    let s : Step = step 1 m sh ld ts in
+    let f = step_fits s n.most.1 n.most.0 h.odds.now h.evens.now (and_parts (is_narrow s n.most.1 n.most.0) (stays_narrow ss (after_step s n.most)) n.test).0 (in_32_bits (s ∷ ss) n.most n.test).0 n.odd_bound n.even_bound in
+    record { parity = omega arith; shift = f.0; evens_len = n.evens_len; odds_len = n.odds_len; read = f.1; changed = f.2 }
 can_first (suc (suc p)) m sh ld ts ss h n = no_parity p m sh ld ts ss h n
 
 -- halves of the same sizes

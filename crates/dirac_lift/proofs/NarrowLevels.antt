@@ -1,20 +1,23 @@
 -- A level in place in 32 bits: columns and rows are taken apart, lifted, and written back.
-use Rattle.std.proofs.Common.{◌≡◌, ◌⊎◌, ℕ, ℤ, pos, true, if◌then◌else◌, ◌+◌, ◌-◌, ◌*◌, ◌/◌, ◌%◌, ◌<◌, ◌≤◌, unsigned_abs, List, length, get_or, set, arith, refl, inl, inr, ap, sym, ◌∙◌, subst}
+use Rattle.std.proofs.Common.{◌≡◌, ◌≢◌, ℕ, ℤ, pos, true, if◌then◌else◌, ◌+◌, ◌-◌, ◌*◌, ◌/◌, ◌%◌, ◌<◌, ◌≤◌, unsigned_abs, List, length, get_or, set, arith, refl, inl, inr, ap, sym, ◌∙◌, subst}
 use Rattle.std.specs.List.{All}
 use Rattle.std.proofs.lemmas.Bool.{cases_eq, cases_lt}
-use Rattle.std.proofs.lemmas.List.{get_or-set_same, get_or-set_other, get_or_past, get_or_default}
+use Rattle.std.proofs.lemmas.List.{get_or-set_same, get_or-set_other, get_or_past, get_or_default, length-set, map-id}
 use Rattle.std.proofs.lemmas.List.FromFn.{fill_by_all, get_or-map-range_with_len}
+use Rattle.std.proofs.Math.Nat.{add-mul}
 use Rattle.dirac_common.specs.Table.{filled}
 use Rattle.dirac_bands.specs.DcSum.{by_rows}
-use Rattle.dirac_lift.specs.Halves.{AreHalves}
+use Rattle.dirac_lift.specs.Halves.{AreHalvesOfLine}
 use Rattle.dirac_lift.specs.HalfRuns.{AreNarrow, IsNarrowLine, stays_narrow}
-use Rattle.dirac_lift.specs.Level.{column, ended, halved, row_in, synthesised}
+use Rattle.dirac_lift.specs.Level.{column, last_halved, halved, row_in, synthesised}
 use Rattle.dirac_lift.specs.Lifting.{PlacesWithin, own, other}
 use Rattle.dirac_lift.specs.Places.{ColumnsBecome, RowsBecome}
 use Rattle.dirac_lift.specs.Wavelets.{has_shift, steps_of, synth}
-use Rattle.dirac_lift.proofs.ColumnLemmas.{column_at, column_bound, columns_values, length-column}
+use Rattle.dirac_lift.proofs.ColumnLemmas.{column-set_other, column-set_same, column_at, column_bound, columns_values, length-column}
+use Rattle.dirac_lift.proofs.HalfBounds.{columns_narrow}
 use Rattle.dirac_lift.proofs.HalfLemmas.{abs-read}
 use Rattle.dirac_lift.proofs.HalfPlanes.{ended_with, filled_ended, filled_len}
+use Rattle.dirac_lift.proofs.PairLemmas.{PairsPut, pairs_all, pairs_more, pairs_none}
 use Rattle.dirac_lift.proofs.RowLemmas.{length-row, row_at, rows_values}
 use Rattle.dirac_lift.proofs.Runs.{by_wavelet, parities_of, reach, run_within, within_from_all}
 
@@ -38,7 +41,7 @@ taken_more line low high n a b t l k ea eb = record {
 pub taken_none : (line low high : List ℤ) → TakenBelow line low high 0
 taken_none line low high = record { even = λ m l. absurd (omega (arith, l)); odd = λ m l. absurd (omega (arith, l)) }
 
-pub taken_all : (line low high : List ℤ) (n : ℕ) → TakenBelow line low high n → length line ≡ 2 * length low → length high ≡ length low → length low ≤ n → AreHalves 0 low high line
+pub taken_all : (line low high : List ℤ) (n : ℕ) → TakenBelow line low high n → length line ≡ 2 * length low → length high ≡ length low → length low ≤ n → AreHalvesOfLine 0 low high line
 taken_all line low high n t len alike all = record {
   len = len;
   alike = alike;
@@ -55,14 +58,14 @@ taken_all line low high n t len alike all = record {
 }
 
 -- halves of a line are as small as it
-pub halves_bound : (b : ℕ) (low high line : List ℤ) → AreHalves 0 low high line → All (λ v. unsigned_abs v ≤ b) line → All (λ v. unsigned_abs v ≤ b) low × All (λ v. unsigned_abs v ≤ b) high
+pub halves_bound : (b : ℕ) (low high line : List ℤ) → AreHalvesOfLine 0 low high line → All (λ v. unsigned_abs v ≤ b) line → All (λ v. unsigned_abs v ≤ b) low × All (λ v. unsigned_abs v ≤ b) high
 halves_bound b low high line a all = (
   λ k d l. rw (get_or_default low k d (pos 0) l, ← a.changed k) (abs-read b line (own 0 k) all),
   λ k d l. rw (get_or_default high k d (pos 0) l, ← a.read k) (abs-read b line (other 0 k) all),
 )
 
-pub line_narrow : (k : ℕ) (low high line : List ℤ) → AreHalves 0 low high line → 0 < length low → IsNarrowLine k line → AreNarrow (steps_of k) 1 (length low) low high
-line_narrow k low high line a some n = record {
+pub line_narrow : (k : ℕ) (low high line : List ℤ) → AreHalvesOfLine 0 low high line → IsNarrowLine k line → AreNarrow (steps_of k) 1 (length low) low high
+line_narrow k low high line a n = record {
   some = omega arith;
   evens_len = omega arith;
   odds_len = omega (arith, a.alike);
@@ -71,6 +74,39 @@ line_narrow k low high line a some n = record {
   odd_bound = (halves_bound n.most low high line a n.bound).1;
   test = n.test;
 }
+
+-- the pairs of column x below n are written, and no other column
+pub record ColumnPut (w h x : ℕ) (low high xs ys : List ℤ) (n : ℕ) : Type 0 where
+  pub len : length ys ≡ length xs
+  pub pairs : PairsPut (λ v. v) low high (column ys w h x) h n
+  pub others : (z : ℕ) → z < w → z ≢ x → column ys w h z ≡ column xs w h z
+
+pub put_none : (w h x : ℕ) (low high xs : List ℤ) → ColumnPut w h x low high xs xs 0
+put_none w h x low high xs = record {
+  len = refl;
+  pairs = subst (λ size. PairsPut (λ v. v) low high (column xs w h x) size 0) (length-column xs w h x) (pairs_none (λ v. v) low high (column xs w h x));
+  others = λ z l ne. refl;
+}
+
+pub put_more : (w h x n : ℕ) (low high xs ys : List ℤ) → ColumnPut w h x low high xs ys n → length xs ≡ w * h → x < w → 2 * n + 1 < h → ColumnPut w h x low high xs (set (set ys (2 * n * w + x) (get_or low n (pos 0))) (2 * n * w + x + w) (get_or high n (pos 0))) (n + 1)
+put_more w h x n low high xs ys p len l inside =
+    let a : ℤ = get_or low n (pos 0) in
+    let b : ℤ = get_or high n (pos 0) in
+    let ws : List ℤ = set ys (2 * n * w + x) a in
+    let vs : List ℤ = set ws ((2 * n + 1) * w + x) b in
+    let whole : length ys ≡ w * h = p.len ∙ len in
+    let size : length ws ≡ length ys = length-set ys (2 * n * w + x) a in
+    let next : 2 * n * w + x + w ≡ (2 * n + 1) * w + x = omega (arith, add-mul (2 * n) 1 w) in
+    let here : column vs w h x ≡ set (set (column ys w h x) (2 * n) a) (2 * n + 1) b =
+    column-set_same ws w h x (2 * n + 1) b (size ∙ whole) l inside ∙ ap (λ zs. set zs (2 * n + 1) b) (column-set_same ys w h x (2 * n) a whole l (omega (arith, inside))) in
+    subst (λ (i : ℕ). ColumnPut w h x low high xs (set ws i b) (n + 1)) (sym next) (record {
+      len = length-set ws ((2 * n + 1) * w + x) b ∙ size ∙ p.len;
+      pairs = subst (λ zs. PairsPut (λ v. v) low high zs h (n + 1)) (sym here) (pairs_more (λ v. v) low high (column ys w h x) h n a b p.pairs inside refl refl);
+      others = λ z zl ne. column-set_other ws w h x (2 * n + 1) z b l zl ne ∙ column-set_other ys w h x (2 * n) z a l zl ne ∙ p.others z zl ne;
+    })
+
+pub put_all : (w h x n : ℕ) (low high xs ys whole : List ℤ) → ColumnPut w h x low high xs ys n → h ≡ 2 * length low → length low ≤ n → AreHalvesOfLine 0 low high whole → column ys w h x ≡ whole
+put_all w h x n low high xs ys whole p e all a = pairs_all (λ v. v) low high (column ys w h x) whole h n p.pairs e all a ∙ map-id whole
 
 -- the columns below p are done
 pub record ColumnsRan (k w h : ℕ) (xs ys : List ℤ) (p : ℕ) : Type 0 where
@@ -81,27 +117,26 @@ pub record ColumnsRan (k w h : ℕ) (xs ys : List ℤ) (p : ℕ) : Type 0 where
 pub ran_none : (k w h : ℕ) (xs : List ℤ) → ColumnsRan k w h xs xs 0
 ran_none k w h xs = record { len = refl; done = λ z l q. absurd (omega (arith, q)); rest = λ z l q. refl }
 
-pub ran_more : (k w h : ℕ) (xs ys zs : List ℤ) (p c : ℕ) → ColumnsRan k w h xs ys p → p + c ≤ w → length zs ≡ length ys → ((j : ℕ) → j < c → column zs w h (p + j) ≡ synth k (column ys w h (p + j))) → ((z : ℕ) → z < w → (z < p) ⊎ (p + c ≤ z) → column zs w h z ≡ column ys w h z) → ColumnsRan k w h xs zs (p + c)
-ran_more k w h xs ys zs p c r fit len here others = record {
+pub ran_more : (k w h : ℕ) (xs ys zs : List ℤ) (p : ℕ) → ColumnsRan k w h xs ys p → p < w → length zs ≡ length ys → column zs w h p ≡ synth k (column ys w h p) → ((z : ℕ) → z < w → z ≢ p → column zs w h z ≡ column ys w h z) → ColumnsRan k w h xs zs (p + 1)
+ran_more k w h xs ys zs p r l len here others = record {
   len = len ∙ r.len;
-  done = λ z lz q. elim (cases_lt z p) [
-    | inl before ↦ others z lz (inl before) ∙ r.done z lz before
-    | inr late ↦
-        let place : p + (z - p) ≡ z = omega (arith, late) in
-        ap (column zs w h) (sym place)
-        ∙ here (z - p) (omega (arith, late, q))
-        ∙ ap (synth k) (ap (column ys w h) place ∙ r.rest z lz late)
+  done = λ z lz q. elim (cases_eq z p) [
+    | inl last ↦ ap (column zs w h) last ∙ here ∙ ap (synth k) (r.rest p l (omega arith)) ∙ ap (λ i. synth k (column xs w h i)) (sym last)
+    | inr before ↦ others z lz before ∙ r.done z lz (omega (arith, q, before))
   ];
-  rest = λ z lz q. others z lz (inr q) ∙ r.rest z lz (omega (arith, q));
+  rest = λ z lz q. others z lz (λ e. omega (arith, e, q)) ∙ r.rest z lz (omega (arith, q));
 }
 
 pub ran_all : (k w h : ℕ) (xs ys : List ℤ) (p : ℕ) → ColumnsRan k w h xs ys p → w ≤ p → ColumnsBecome (synth k) w h xs ys
 ran_all k w h xs ys p r all = record { len = r.len; each = λ x l. r.done x l (omega (arith, l, all)) }
 
--- the rest of the columns is still small
-pub ran_bound : (k w h : ℕ) (xs ys : List ℤ) (p z b : ℕ) → ColumnsRan k w h xs ys p → z < w → p ≤ z → All (λ v. unsigned_abs v ≤ b) xs → All (λ v. unsigned_abs v ≤ b) (column ys w h z)
-ran_bound k w h xs ys p z b r l late all =
-    subst (λ (zs : List ℤ). All (λ v. unsigned_abs v ≤ b) zs) (sym (r.rest z l late)) (column_bound b xs w h z all)
+-- the next column is still small
+pub column_is_narrow : (k w h p : ℕ) (xs ys : List ℤ) → ColumnsRan k w h xs ys p → k ≤ 6 → p < w → All (λ v. unsigned_abs v ≤ 4095) xs → IsNarrowLine k (column ys w h p)
+column_is_narrow k w h p xs ys r is l all = record {
+  most = 4095;
+  bound = subst (λ (zs : List ℤ). All (λ v. unsigned_abs v ≤ 4095) zs) (sym (r.rest p l (omega arith))) (column_bound 4095 xs w h p all);
+  test = columns_narrow k is;
+}
 
 -- after the columns 32 bits are still enough
 reach_narrow : (w : ℕ) → w ≤ 6 → (stays_narrow (steps_of w) ((reach (steps_of w) 4095 4095).0, (reach (steps_of w) 4095 4095).0) ≡ true) × (stays_narrow (steps_of w) ((reach (steps_of w) 4095 4095).1, (reach (steps_of w) 4095 4095).1) ≡ true)
@@ -146,10 +181,10 @@ filled_same w h f g e =
     fill_by_all (λ p. g (p % w) (p / w)) (filled w h f) (w * h) (pos 0) (filled_len w h f) (λ p l.
     get_or-map-range_with_len (λ q. f (q % w) (q / w)) 0 (w * h) p p (pos 0) l (omega arith) ∙ e (p % w) (p / w))
 
-pub narrow_value : (k w h : ℕ) (xs ys zs : List ℤ) → length xs ≡ w * h → 1 ≤ w → ColumnsBecome (synth k) w h xs ys → RowsBecome (λ line. ended k (synth k line)) w h ys zs → zs ≡ (synthesised k (by_rows w h xs)).values
+pub narrow_value : (k w h : ℕ) (xs ys zs : List ℤ) → length xs ≡ w * h → 1 ≤ w → ColumnsBecome (synth k) w h xs ys → RowsBecome (λ line. last_halved k (synth k line)) w h ys zs → zs ≡ (synthesised k (by_rows w h xs)).values
 narrow_value k w h xs ys zs len one columns rows =
-    rows_values (λ line. ended k (synth k line)) w h ys zs rows (columns.len ∙ len) (omega arith)
-    ∙ filled_same w h (λ x y. get_or (ended k (synth k (row_in ys w y))) x (pos 0)) (λ x y. if has_shift k then halved (get_or (synth k (row_in ys w y)) x (pos 0)) else get_or (synth k (row_in ys w y)) x (pos 0))
+    rows_values (λ line. last_halved k (synth k line)) w h ys zs rows (columns.len ∙ len) (omega arith)
+    ∙ filled_same w h (λ x y. get_or (last_halved k (synth k (row_in ys w y))) x (pos 0)) (λ x y. if has_shift k then halved (get_or (synth k (row_in ys w y)) x (pos 0)) else get_or (synth k (row_in ys w y)) x (pos 0))
     (λ x y. ended_with (has_shift k) (synth k (row_in ys w y)) x)
     ∙ filled_ended (has_shift k) w h (λ x y. get_or (synth k (row_in ys w y)) x (pos 0))
-    ∙ ap (λ vs. ended k (filled w h (λ x y. get_or (synth k (row_in vs w y)) x (pos 0)))) (columns_values (synth k) w h xs ys columns len (omega arith))
+    ∙ ap (λ vs. last_halved k (filled w h (λ x y. get_or (synth k (row_in vs w y)) x (pos 0)))) (columns_values (synth k) w h xs ys columns len (omega arith))

@@ -4,7 +4,7 @@ use Rattle.std.proofs.lemmas.Bool.{cases_eq, cases_lt}
 use Rattle.std.proofs.lemmas.List.{get_or-set_same, get_or-set_other, length-set, ext_get_or, get_or-map, length-map}
 use Rattle.std.proofs.Math.IntN.{+ℤ_idr}
 use lib.Signed.{shr_z}
-use Rattle.dirac_lift.specs.Halves.{AreHalves}
+use Rattle.dirac_lift.specs.Halves.{AreHalvesOfLine}
 use Rattle.dirac_lift.specs.Lanes.{AreInTurn, AreLanes, EightPairsPut, RunPut, lane}
 use Rattle.dirac_lift.specs.Lifting.{rounded}
 
@@ -35,7 +35,7 @@ pairs_more f es os zs size n v u p l ev eu =
       ];
     }
 
-pub pairs_all : (f : ℤ → ℤ) (es os zs line : List ℤ) (size n : ℕ) → PairsPut f es os zs size n → size ≡ 2 * length es → length es ≤ n → AreHalves 0 es os line → zs ≡ map f line
+pub pairs_all : (f : ℤ → ℤ) (es os zs line : List ℤ) (size n : ℕ) → PairsPut f es os zs size n → size ≡ 2 * length es → length es ≤ n → AreHalvesOfLine 0 es os line → zs ≡ map f line
 pairs_all f es os zs line size n p e all a =
     let len : length zs ≡ length line = p.len ∙ e ∙ sym a.len in
     ext_get_or (pos 0) zs (map f line) (len ∙ sym (length-map line f)) (λ i l.

@@ -1,29 +1,27 @@
 -- A level whose rows come to rings and leave them.
-use Rattle.std.proofs.Common.{◌≡◌, ℕ, ℤ, pos, ◌+◌, ◌-◌, ◌*◌, ◌/◌, ◌%◌, ◌<◌, ◌≤◌, List, length, get_or, take, drop, unsigned_abs, arith, refl, inl, inr, ap, sym, ◌∙◌}
+use Rattle.std.proofs.Common.{◌≡◌, ℕ, ℤ, pos, true, ◌+◌, ◌-◌, ◌*◌, ◌/◌, ◌%◌, ◌<◌, ◌≤◌, List, length, get_or, take, drop, unsigned_abs, arith, refl, inl, inr, ap, sym, ◌∙◌}
 use Rattle.std.specs.List.{All}
 use Rattle.std.proofs.lemmas.Bool.{cases_lt, le-ltb, lt-ltb}
 use Rattle.std.proofs.lemmas.List.{get_or_past}
 use borrow.Rule.Slice.PartMut.{put_mid}
 use Rattle.dirac_common.proofs.Rows.{filled_at}
 use Rattle.dirac_lift.specs.AtWork.{lines_of}
-use Rattle.dirac_lift.specs.ByLines.{longest_wait}
+use Rattle.dirac_lift.specs.ByLines.{longest_wait, turns}
 use Rattle.dirac_lift.specs.HalfRows.{column_of}
-use Rattle.dirac_lift.specs.HalfRuns.{AreNarrow, after_steps}
-use Rattle.dirac_lift.specs.Halves.{AreHalves, from_halves, place_of}
+use Rattle.dirac_lift.specs.HalfRuns.{AreNarrow, after_steps, stays_narrow}
+use Rattle.dirac_lift.specs.Halves.{AreHalvesOfLine, from_halves, place_in_halves}
 use Rattle.dirac_lift.specs.Lanes.{RunPut}
-use Rattle.dirac_lift.specs.Level.{column, ended, row_in}
+use Rattle.dirac_lift.specs.Level.{column, last_halved, row_in}
 use Rattle.dirac_lift.specs.Lifting.{own}
-use Rattle.dirac_lift.specs.Rings.{AfterTurns, AreNarrowLines, RowCame, most_of, waiting}
+use Rattle.dirac_lift.specs.Rings.{AfterTurns, AreNarrowLines, RingsHold, RowCame, most_of, steps_to_come}
 use Rattle.dirac_lift.specs.Wavelets.{steps_of, synth}
 use Rattle.dirac_lift.proofs.ColumnLemmas.{column_at, length-column}
 use Rattle.dirac_lift.proofs.HalfAnalysis.{column_place}
-use Rattle.dirac_lift.proofs.HalfBounds.{rows_narrow}
 use Rattle.dirac_lift.proofs.HalfLemmas.{abs-read}
 use Rattle.dirac_lift.proofs.HalfPlanes.{even_place, filled_len, level_at, lifted_columns, line_at, odd_place, place_even, place_in, place_odd, row_halves, row_narrow}
 use Rattle.dirac_lift.proofs.RingRows.{run_bound, slot_kept}
-use Rattle.dirac_lift.proofs.RowLemmas.{length-row}
+use Rattle.dirac_lift.proofs.RowLemmas.{length-row, run_copied}
 use Rattle.dirac_lift.proofs.Runs.{by_wavelet}
-use Rattle.dirac_lift.proofs.Strips.{run_copied}
 use Rattle.dirac_lift.proofs.TurnBounds.{row_finished, row_fresh}
 
 -- the columns by their places in a row of halves
@@ -33,7 +31,7 @@ column_in w p l even = elim (cases_lt p (w / 2)) [
   | inr past ↦ rw (le-ltb p (w / 2) past) (omega (arith, past, l, even))
 ]
 
-pub place_column : (w p : ℕ) → p < w → w % 2 ≡ 0 → place_of w (column_of w p) ≡ p
+pub place_column : (w p : ℕ) → p < w → w % 2 ≡ 0 → place_in_halves w (column_of w p) ≡ p
 place_column w p l even = elim (cases_lt p (w / 2)) [
   | inl inside ↦ rw (lt-ltb p (w / 2) inside) (place_even w p (2 * p) refl)
   | inr past ↦ rw (le-ltb p (w / 2) past) (place_odd w (p - w / 2) (2 * (p - w / 2) + 1) refl ∙ omega (arith, past))
@@ -139,58 +137,29 @@ pub row_put : (w s n k : ℕ) (rows ring ws : List ℤ) → s * w + w ≤ length
 row_put w s n k rows ring ws room enough ek e =
     run_copied (s * w) w (n * w) k (n * w + w - n * w) ring ws rows room enough ek (omega arith) e
 
--- rows that leave the rings
-left_even : (k w h m n x : ℕ) (es os evens odds : List ℤ) → k ≤ 6 → w % 2 ≡ 0 → AfterTurns k w h (m + 1) (m + 1) (lines_of w h es os) evens odds → m + 1 - 16 ≤ n → n + longest_wait (waiting k) ≤ m → n < h → x < w
-    → get_or (lifted_columns k w h es os).values ((2 * n) * w + x) (pos 0) ≡ get_or evens ((n % 16) * w + place_of w x) (pos 0)
-left_even k w h m n x es os evens odds l even r lo late inside d =
+-- rows that leave the rings: even ones, or with p = 1 odd ones
+left : (p k w h m n x : ℕ) (es os ring others : List ℤ) → k ≤ 6 → p ≤ 1 → w % 2 ≡ 0 → RingsHold p w h (m + 1 - 16) (m + 1) (λ x. turns (steps_to_come k) (m + 1) (lines_of w h es os x)) ring others → m + 1 - 16 ≤ n → n + longest_wait (steps_to_come k) ≤ m → n < h → x < w
+    → get_or (lifted_columns k w h es os).values ((2 * n + p) * w + x) (pos 0) ≡ get_or ring ((n % 16) * w + place_in_halves w x) (pos 0)
+left p k w h m n x es os ring others l one even r lo late inside d =
     let ps = (from_halves w h es os).values in
-    let p = place_of w x in
-    let place : 2 * n ≡ own 0 n = omega arith in
-    let line : lines_of w h es os p ≡ column ps w (2 * h) x = ap (column ps w (2 * h)) (column_place w x d even) in
-    filled_at (λ x y. get_or (synth k (column ps w (2 * h) x)) y (pos 0)) w (2 * h) x (2 * n) d (omega (arith, inside))
-    ∙ ap (λ zs. get_or (synth k zs) (2 * n) (pos 0)) (sym line)
-    ∙ ap (λ i. get_or (synth k (lines_of w h es os p)) i (pos 0)) place
-    ∙ sym (row_finished k (m + 1) (own 0 n) (lines_of w h es os p) l (omega (arith, lines_len w h es os p)) (omega (arith, late)))
-    ∙ sym (r.changed n p lo (omega (arith, late)) inside (place_in w x d even))
-
-left_odd : (k w h m n x : ℕ) (es os evens odds : List ℤ) → k ≤ 6 → w % 2 ≡ 0 → AfterTurns k w h (m + 1) (m + 1) (lines_of w h es os) evens odds → m + 1 - 16 ≤ n → n + longest_wait (waiting k) ≤ m → n < h → x < w
-    → get_or (lifted_columns k w h es os).values ((2 * n + 1) * w + x) (pos 0) ≡ get_or odds ((n % 16) * w + place_of w x) (pos 0)
-left_odd k w h m n x es os evens odds l even r lo late inside d =
-    let ps = (from_halves w h es os).values in
-    let p = place_of w x in
-    let line : lines_of w h es os p ≡ column ps w (2 * h) x = ap (column ps w (2 * h)) (column_place w x d even) in
-    filled_at (λ x y. get_or (synth k (column ps w (2 * h) x)) y (pos 0)) w (2 * h) x (2 * n + 1) d (omega (arith, inside))
-    ∙ ap (λ zs. get_or (synth k zs) (2 * n + 1) (pos 0)) (sym line)
-    ∙ sym (row_finished k (m + 1) (2 * n + 1) (lines_of w h es os p) l (omega (arith, lines_len w h es os p)) (omega (arith, late)))
-    ∙ sym (r.read n p lo (omega (arith, late)) inside (place_in w x d even))
+    let q = place_in_halves w x in
+    let line : lines_of w h es os q ≡ column ps w (2 * h) x = ap (column ps w (2 * h)) (column_place w x d even) in
+    filled_at (λ x y. get_or (synth k (column ps w (2 * h) x)) y (pos 0)) w (2 * h) x (2 * n + p) d (omega (arith, inside, one))
+    ∙ ap (λ zs. get_or (synth k zs) (2 * n + p) (pos 0)) (sym line)
+    ∙ sym (row_finished k (m + 1) (2 * n + p) (lines_of w h es os q) l (omega (arith, lines_len w h es os q)) (omega (arith, late, one)))
+    ∙ sym (r.changed n q lo (omega (arith, late)) inside (place_in w x d even))
 
 -- a row of the level, from one of a ring
-from_ring : (k w h n y x : ℕ) (es os ring line : List ℤ) → length ring ≡ w * 16 → w % 2 ≡ 0 → y < 2 * h → ((i : ℕ) → i < w → get_or (lifted_columns k w h es os).values (y * w + i) (pos 0) ≡ get_or ring ((n % 16) * w + place_of w i) (pos 0))
-    → ((whole : List ℤ) → AreHalves 0 (take (w / 2) (row_in ring w (n % 16))) (drop (w / 2) (row_in ring w (n % 16))) whole → line ≡ ended k (synth k whole))
-    → get_or line x (pos 0) ≡ level_at k w h es os x y
-from_ring k w h n y x es os ring line len even inside same each =
+pub row_from_ring : (p k w h m n x : ℕ) (es os ring others line : List ℤ) → k ≤ 6 → p ≤ 1 → w % 2 ≡ 0 → RingsHold p w h (m + 1 - 16) (m + 1) (λ x. turns (steps_to_come k) (m + 1) (lines_of w h es os x)) ring others → m + 1 - 16 ≤ n → n + longest_wait (steps_to_come k) ≤ m → n < h
+    → ((whole : List ℤ) → AreHalvesOfLine 0 (take (w / 2) (row_in ring w (n % 16))) (drop (w / 2) (row_in ring w (n % 16))) whole → line ≡ last_halved k (synth k whole))
+    → get_or line x (pos 0) ≡ level_at k w h es os x (2 * n + p)
+row_from_ring p k w h m n x es os ring others line l one even r lo late inside each =
     let ps = (lifted_columns k w h es os).values in
+    let y : 2 * n + p < 2 * h = omega (arith, inside, one) in
     let whole : length ps ≡ w * (2 * h) = filled_len w (2 * h) (λ x y. get_or (synth k (column (from_halves w h es os).values w (2 * h) x)) y (pos 0)) in
-    line_at k w h y x es os line (take (w / 2) (row_in ring w (n % 16))) (drop (w / 2) (row_in ring w (n % 16))) each
-    (row_halves w ps ring (n % 16) y even (length-row ps w (2 * h) y whole inside) (length-row ring w 16 (n % 16) len (omega arith)) same)
+    line_at k w h (2 * n + p) x es os line (take (w / 2) (row_in ring w (n % 16))) (drop (w / 2) (row_in ring w (n % 16))) each
+    (row_halves w ps ring (n % 16) (2 * n + p) even (length-row ps w (2 * h) (2 * n + p) whole y) (length-row ring w 16 (n % 16) r.owns_len (omega arith)) (λ i il. left p k w h m n i es os ring others l one even r lo late inside il))
 
-pub even_from_ring : (k w h m n x : ℕ) (es os evens odds line : List ℤ) → k ≤ 6 → w % 2 ≡ 0 → AfterTurns k w h (m + 1) (m + 1) (lines_of w h es os) evens odds → m + 1 - 16 ≤ n → n + longest_wait (waiting k) ≤ m → n < h
-    → ((whole : List ℤ) → AreHalves 0 (take (w / 2) (row_in evens w (n % 16))) (drop (w / 2) (row_in evens w (n % 16))) whole → line ≡ ended k (synth k whole))
-    → get_or line x (pos 0) ≡ level_at k w h es os x (2 * n)
-even_from_ring k w h m n x es os evens odds line l even r lo late inside each =
-    from_ring k w h n (2 * n) x es os evens line r.owns_len even (omega (arith, inside)) (λ i il. left_even k w h m n i es os evens odds l even r lo late inside il) each
-
-pub odd_from_ring : (k w h m n x : ℕ) (es os evens odds line : List ℤ) → k ≤ 6 → w % 2 ≡ 0 → AfterTurns k w h (m + 1) (m + 1) (lines_of w h es os) evens odds → m + 1 - 16 ≤ n → n + longest_wait (waiting k) ≤ m → n < h
-    → ((whole : List ℤ) → AreHalves 0 (take (w / 2) (row_in odds w (n % 16))) (drop (w / 2) (row_in odds w (n % 16))) whole → line ≡ ended k (synth k whole))
-    → get_or line x (pos 0) ≡ level_at k w h es os x (2 * n + 1)
-odd_from_ring k w h m n x es os evens odds line l even r lo late inside each =
-    from_ring k w h n (2 * n + 1) x es os odds line r.reads_len even (omega (arith, inside)) (λ i il. left_odd k w h m n i es os evens odds l even r lo late inside il) each
-
--- 32 bits are enough for them
-pub even_ring_narrow : (k w n : ℕ) (evens : List ℤ) → k ≤ 6 → w % 2 ≡ 0 → 0 < w → length evens ≡ w * 16 → All (λ v. unsigned_abs v ≤ (most_of k).0) evens → AreNarrow (steps_of k) 1 (w / 2) (take (w / 2) (row_in evens w (n % 16))) (drop (w / 2) (row_in evens w (n % 16)))
-even_ring_narrow k w n evens l even some len all =
-    row_narrow k w (n % 16) (most_of k).0 evens (rows_narrow k l).0 even some (length-row evens w 16 (n % 16) len (omega arith)) all
-
-pub odd_ring_narrow : (k w n : ℕ) (odds : List ℤ) → k ≤ 6 → w % 2 ≡ 0 → 0 < w → length odds ≡ w * 16 → All (λ v. unsigned_abs v ≤ (most_of k).1) odds → AreNarrow (steps_of k) 1 (w / 2) (take (w / 2) (row_in odds w (n % 16))) (drop (w / 2) (row_in odds w (n % 16)))
-odd_ring_narrow k w n odds l even some len all =
-    row_narrow k w (n % 16) (most_of k).1 odds (rows_narrow k l).1 even some (length-row odds w 16 (n % 16) len (omega arith)) all
+-- 32 bits are enough for it
+pub ring_narrow : (k w n e : ℕ) (ring : List ℤ) → stays_narrow (steps_of k) (e, e) ≡ true → w % 2 ≡ 0 → 0 < w → length ring ≡ w * 16 → All (λ v. unsigned_abs v ≤ e) ring → AreNarrow (steps_of k) 1 (w / 2) (take (w / 2) (row_in ring w (n % 16))) (drop (w / 2) (row_in ring w (n % 16)))
+ring_narrow k w n e ring test even some len all = row_narrow k w (n % 16) e ring test even some (length-row ring w 16 (n % 16) len (omega arith)) all

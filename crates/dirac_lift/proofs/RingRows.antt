@@ -12,9 +12,6 @@ use Rattle.dirac_lift.proofs.HalfLemmas.{abs-read}
 use Rattle.dirac_lift.proofs.Turns.{changed_in_turn, length-in_turn, weighted_below}
 
 -- a run that is written value by value
-pub run_none : (at : ℕ) (f : ℕ → ℤ) (xs : List ℤ) → RunPut at 0 f xs xs
-run_none at f xs = record { len = refl; inside = λ j l. absurd (omega (arith, l)); before = λ k l. refl; behind = λ k l. refl }
-
 pub run_more : (at n : ℕ) (f : ℕ → ℤ) (xs ys : List ℤ) (v : ℤ) → RunPut at n f xs ys → at + n < length xs → v ≡ f n → RunPut at (n + 1) f xs (set ys (at + n) v)
 run_more at n f xs ys v r fits e = record {
   len = length-set ys (at + n) v ∙ r.len;
@@ -159,22 +156,6 @@ lifted_bound b s wait w h m cols owns reads new r l early within all = elim (cas
     | inr past ↦ rw (l.idle (inr (omega (arith, come, past)))) all
   ]
 ]
-
--- what a turn of a step is, by its cases
-pub row_early : (s : Step) (w h m wait : ℕ) (owns reads : List ℤ) → m < wait → RowLifted s w h m wait owns reads owns
-row_early s w h m wait owns reads early = record { busy = λ a b. absurd (omega (arith, a, early)); idle = λ e. refl }
-
-pub row_past : (s : Step) (w h m wait : ℕ) (owns reads : List ℤ) → h ≤ m - wait → RowLifted s w h m wait owns reads owns
-row_past s w h m wait owns reads past = record { busy = λ a b. absurd (omega (arith, b, past)); idle = λ e. refl }
-
-pub row_lifted : (s : Step) (w h m wait : ℕ) (owns reads new : List ℤ) → wait ≤ m → m - wait < h → RunPut (((m - wait) % 16) * w) w (ring_value s w h owns reads (m - wait)) owns new → RowLifted s w h m wait owns reads new
-row_lifted s w h m wait owns reads new come inside put = record {
-  busy = λ a b. put;
-  idle = elim [
-    | inl early ↦ absurd (omega (arith, early, come))
-    | inr past ↦ absurd (omega (arith, past, come, inside))
-  ];
-}
 
 -- and of a row that comes
 pub row_came : (w h m : ℕ) (rows ring after : List ℤ) → m < h → RunPut ((m % 16) * w) w (λ x. get_or rows (m * w + x) (pos 0)) ring after → RowCame w h m rows ring after

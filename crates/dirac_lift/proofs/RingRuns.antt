@@ -9,7 +9,7 @@ use Rattle.dirac_lift.specs.ByLines.{Timed, distance, in_turn, timed_behind, tur
 use Rattle.dirac_lift.specs.HalfRuns.{after_step, after_steps, is_narrow}
 use Rattle.dirac_lift.specs.Liftables.{CanLiftRings, RingsLifted}
 use Rattle.dirac_lift.specs.Lifting.{PlacesWithin, Step}
-use Rattle.dirac_lift.specs.Rings.{AfterTurns, AreNarrowLines, RingsHold, RowLifted, coming, most_of, waiting}
+use Rattle.dirac_lift.specs.Rings.{AfterTurns, AreNarrowLines, RingsHold, RowLifted, coming, most_of, steps_to_come}
 use Rattle.dirac_lift.specs.Running.{CanRun}
 use Rattle.dirac_lift.specs.Wavelets.{steps_of}
 use Rattle.dirac_lift.proofs.HalfSteps.{narrow_parts}
@@ -28,7 +28,7 @@ abbrev fit_ring : List Timed → ℕ × ℕ → Bool
 fit_ring [] most = true
 fit_ring (t ∷ ts) most = fits_ring t most && fit_ring ts most
 
-waiting_fit : (w : ℕ) → w ≤ 6 → fit_ring (waiting w) (most_of w) ≡ true
+waiting_fit : (w : ℕ) → w ≤ 6 → fit_ring (steps_to_come w) (most_of w) ≡ true
 waiting_fit = by_wavelet (λ w ss. fit_ring (timed_behind coming 0 ss) (after_steps ss (4095, 4095)) ≡ true) refl refl refl refl refl refl refl
 
 most_in_32_bits : (w : ℕ) → w ≤ 6 → (nat_le (most_of w).0 (2 ^ 30) && nat_le (most_of w).1 (2 ^ 30)) ≡ true
@@ -300,7 +300,7 @@ turn_ran k r after lines l lead wait down narrow hold he ho folds =
     let held = subst (λ n. RingsHold 0 r.size.width r.size.half (r.turn + 1 - 16) (r.turn + 1) (λ x. turns (timed_behind coming n (steps_of k)) (suc r.turn) (lines x)) after.evens.now after.odds.now) wait done.hold in (
       done.same_evens,
       done.same_odds,
-      subst (λ m. RingsHold 0 r.size.width r.size.half (r.turn + 1 - 16) (r.turn + 1) (λ x. turns (waiting k) m (lines x)) after.evens.now after.odds.now) one held,
+      subst (λ m. RingsHold 0 r.size.width r.size.half (r.turn + 1 - 16) (r.turn + 1) (λ x. turns (steps_to_come k) m (lines x)) after.evens.now after.odds.now) one held,
       done.evens_bound,
       done.odds_bound,
     )

@@ -8,6 +8,7 @@ use Rattle.std.proofs.lemmas.Bool.{cases_lt, cases_eq}
 use Rattle.std.proofs.lemmas.Slice.{between_is, between-put_mid, take-put_mid_below, drop-put_mid}
 use borrow.Rule.Slice.PartMut.{put_mid, mid_of, same_len_mid}
 use Rattle.dirac_common.specs.Table.{filled}
+use Rattle.dirac_lift.specs.Lanes.{RunPut}
 use Rattle.dirac_lift.specs.Level.{row_in}
 use Rattle.dirac_lift.specs.Places.{RowsBecome}
 
@@ -83,3 +84,31 @@ rows_bound b ys w h len some each k d l =
     each (k / w) row (k % w) (pos 0) (omega (arith, column, length-row ys w h (k / w) len row)) in
     let there : unsigned_abs (get_or ys ((k / w) * w + k % w) (pos 0)) ≤ b = rw (row_at ys w (k / w) (k % w) column) at here in
     rw (get_or_default ys k d (pos 0) l) (rw place at there)
+
+-- a part of a list that is overwritten by a part of another
+pub run_copied : (at count first k m : ℕ) (xs ys from : List ℤ) → at + count ≤ length xs → first + count ≤ length from → k ≡ count → m ≡ count → ys ≡ take m (drop first from) → RunPut at count (λ j. get_or from (first + j) (pos 0)) xs (put_mid at k xs ys)
+run_copied at count first k m xs ys from room enough ek em is =
+    let zs : List ℤ = put_mid at k xs ys in
+    let part : length (take m (drop first from)) ≡ count = simp (length-take, length-drop) (omega (arith, enough, em)) in
+    let size : length ys ≡ count = ap length is ∙ part in
+    let mid : length (mid_of at k xs) ≡ count = simp (length-take, length-drop) (omega (arith, room, ek)) in
+    let span : at + count - at ≡ count = omega arith in
+    record {
+      len = same_len_mid at k xs ys (size ∙ sym mid);
+      inside = λ j l.
+          sym (get_or-take (at + count - at) (drop at zs) j (pos 0) (omega (arith, l, span)) ∙ get_or-drop at zs j (pos 0))
+          ∙ ap (λ vs. get_or vs j (pos 0)) (between-put_mid at k xs ys (at + count) (omega (arith, room)) (omega (arith, size, span)) ∙ is)
+          ∙ get_or-take m (drop first from) j (pos 0) (omega (arith, l, em))
+          ∙ get_or-drop first from j (pos 0);
+      before = λ i l.
+          sym (get_or-take at zs i (pos 0) l)
+          ∙ ap (λ vs. get_or vs i (pos 0)) (take-put_mid_below at k xs ys at (omega arith) (omega (arith, room)))
+          ∙ get_or-take at xs i (pos 0) l;
+      behind = λ i l.
+          let here : at + count + (i - (at + count)) ≡ i = omega (arith, l) in
+          ap (λ n. get_or zs n (pos 0)) (sym here)
+          ∙ sym (get_or-drop (at + count) zs (i - (at + count)) (pos 0))
+          ∙ ap (λ vs. get_or vs (i - (at + count)) (pos 0)) (drop-put_mid at k xs ys (at + count) (omega (arith, ek)) (omega (arith, room)) (omega (arith, size, ek)))
+          ∙ get_or-drop (at + count) xs (i - (at + count)) (pos 0)
+          ∙ ap (λ n. get_or xs n (pos 0)) here;
+    }

@@ -3,7 +3,7 @@ use Rattle.std.proofs.Common.{◌≡◌, ℕ, zero, suc, ℤ, pos, Bool, true, �
 use Rattle.std.specs.List.{All, sum_by}
 use Rattle.std.proofs.lemmas.Bool.{cases_lt, cases_eq, ne_eqb, and_parts, leb-true}
 use Rattle.std.proofs.lemmas.List.{get_or_past, get_or_default}
-use Rattle.dirac_lift.specs.Lifting.{Step, lift, opposite, PlacesWithin, grown}
+use Rattle.dirac_lift.specs.Lifting.{Step, lift, opposite, PlacesWithin, grown_by_step}
 use Rattle.dirac_lift.specs.Safety.{AreFit, Safe}
 use Rattle.dirac_lift.specs.Wavelets.{run, taken_back, steps_of, deslauriers_dubuc_9_7, legall_5_3, deslauriers_dubuc_13_7, haar, fidelity, daubechies_9_7, synth_bound, analyse_bound}
 use Rattle.dirac_lift.proofs.Lifted.{length-lift}
@@ -41,10 +41,10 @@ run_back (s ∷ ss) xs fit even =
 
 -- bounds on even and odd places after a step
 abbrev pub evens_after : Step → ℕ → ℕ → ℕ
-evens_after s evens odds = if s.parity == 0 then grown s evens odds else evens
+evens_after s evens odds = if s.parity == 0 then grown_by_step s evens odds else evens
 
 abbrev pub odds_after : Step → ℕ → ℕ → ℕ
-odds_after s evens odds = if s.parity == 0 then odds else grown s odds evens
+odds_after s evens odds = if s.parity == 0 then odds else grown_by_step s odds evens
 
 after_step : (s : Step) (e o : ℕ) (xs : List ℤ) → s.parity ≤ 1 → length xs % 2 ≡ 0 → PlacesWithin e 0 xs → PlacesWithin o 1 xs → PlacesWithin (evens_after s e o) 0 (lift s xs) × PlacesWithin (odds_after s e o) 1 (lift s xs)
 after_step s e o xs p even he ho = elim (cases_eq s.parity 0) [
@@ -53,7 +53,7 @@ after_step s e o xs p even he ho = elim (cases_eq s.parity 0) [
       let read : PlacesWithin o (1 - s.parity) xs = subst (λ q. PlacesWithin o q xs) (sym one) ho in
       let mine : PlacesWithin e s.parity xs = subst (λ q. PlacesWithin e q xs) (sym none) he in
       rw (eq-eqb s.parity 0 none) (
-        subst (λ q. PlacesWithin (grown s e o) q (lift s xs)) none (own_grown s e o xs p even mine read),
+        subst (λ q. PlacesWithin (grown_by_step s e o) q (lift s xs)) none (own_grown s e o xs p even mine read),
         subst (λ q. PlacesWithin o q (lift s xs)) one (other_kept s o xs p even read),
       )
   | inr some ↦
@@ -63,7 +63,7 @@ after_step s e o xs p even he ho = elim (cases_eq s.parity 0) [
       let mine : PlacesWithin o s.parity xs = subst (λ q. PlacesWithin o q xs) (sym one) ho in
       rw (ne_eqb s.parity 0 some) (
         subst (λ q. PlacesWithin e q (lift s xs)) none (other_kept s e xs p even read),
-        subst (λ q. PlacesWithin (grown s o e) q (lift s xs)) one (own_grown s o e xs p even mine read),
+        subst (λ q. PlacesWithin (grown_by_step s o e) q (lift s xs)) one (own_grown s o e xs p even mine read),
       )
 ]
 

@@ -5,7 +5,7 @@ use Rattle.std.proofs.lemmas.List.{get_or-set_other}
 use Rattle.dirac_lift.specs.ByLines.{Timed, in_turn, longest_wait, timed_behind, turn, turns}
 use Rattle.dirac_lift.specs.HalfRuns.{after_step, after_steps}
 use Rattle.dirac_lift.specs.Lifting.{PlacesWithin, Step, new_at, own}
-use Rattle.dirac_lift.specs.Rings.{coming, waiting}
+use Rattle.dirac_lift.specs.Rings.{coming, steps_to_come}
 use Rattle.dirac_lift.specs.Wavelets.{run, steps_of, synth}
 use Rattle.dirac_lift.proofs.Growth.{abs-new}
 use Rattle.dirac_lift.proofs.Lifted.{LiftedBelow}
@@ -67,27 +67,27 @@ fresh ts zero p xs fit l = refl
 fresh ts (suc m) p xs fit l = fresh_turn ts m p (turns ts m xs) fit (omega (arith, l)) ∙ fresh ts m p xs fit (omega (arith, l))
 
 -- the steps of a wavelet that wait for rows
-pub waiting_in_time : (w : ℕ) → w ≤ 6 → in_time (waiting w) ≡ true
+pub waiting_in_time : (w : ℕ) → w ≤ 6 → in_time (steps_to_come w) ≡ true
 waiting_in_time = by_wavelet (λ w ss. in_time (timed_behind coming 0 ss) ≡ true) refl refl refl refl refl refl refl
 
-pub steps_waiting : (w : ℕ) → steps_in (waiting w) ≡ steps_of w
+pub steps_waiting : (w : ℕ) → steps_in (steps_to_come w) ≡ steps_of w
 steps_waiting w = steps_behind coming 0 (steps_of w)
 
-pub waiting_parities : (w : ℕ) → w ≤ 6 → has_parities (steps_in (waiting w)) ≡ true
+pub waiting_parities : (w : ℕ) → w ≤ 6 → has_parities (steps_in (steps_to_come w)) ≡ true
 waiting_parities w l = ap has_parities (steps_waiting w) ∙ parities_of w l
 
 -- a row that has just come is as it came
-pub row_fresh : (k m p : ℕ) (xs : List ℤ) → k ≤ 6 → m ≤ p / 2 → get_or (turns (waiting k) m xs) p (pos 0) ≡ get_or xs p (pos 0)
-row_fresh k m p xs l late = fresh (waiting k) m p xs (waiting_parities k l) late
+pub row_fresh : (k m p : ℕ) (xs : List ℤ) → k ≤ 6 → m ≤ p / 2 → get_or (turns (steps_to_come k) m xs) p (pos 0) ≡ get_or xs p (pos 0)
+row_fresh k m p xs l late = fresh (steps_to_come k) m p xs (waiting_parities k l) late
 
 -- and one that all steps have gone over is finished
-pub row_finished : (k m p : ℕ) (xs : List ℤ) → k ≤ 6 → length xs % 2 ≡ 0 → p / 2 + longest_wait (waiting k) < m → get_or (turns (waiting k) m xs) p (pos 0) ≡ get_or (synth k xs) p (pos 0)
+pub row_finished : (k m p : ℕ) (xs : List ℤ) → k ≤ 6 → length xs % 2 ≡ 0 → p / 2 + longest_wait (steps_to_come k) < m → get_or (turns (steps_to_come k) m xs) p (pos 0) ≡ get_or (synth k xs) p (pos 0)
 unfolding synth
 row_finished k m p xs l even late =
-    let ts = waiting k in
+    let ts = steps_to_come k in
     sym (stays ts (length xs / 2 + longest_wait ts) m p xs (waiting_parities k l) late)
     ∙ ap (λ zs. get_or zs p (pos 0)) (turns_run ts (m + (length xs / 2 + longest_wait ts)) xs (waiting_in_time k l) (waiting_parities k l) even (omega arith) ∙ ap (λ rest. run rest xs) (steps_waiting k))
 
 -- how long the last step waits
-pub longest_waits : (w : ℕ) → w ≤ 6 → longest_wait (waiting w) ≤ (if w == 5 then 7 else 3)
+pub longest_waits : (w : ℕ) → w ≤ 6 → longest_wait (steps_to_come w) ≤ (if w == 5 then 7 else 3)
 longest_waits = by_wavelet (λ w ss. longest_wait (timed_behind coming 0 ss) ≤ (if w == 5 then 7 else 3)) (omega arith) (omega arith) (omega arith) (omega arith) (omega arith) (omega arith) (omega arith)

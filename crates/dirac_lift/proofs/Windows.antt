@@ -1,20 +1,20 @@
 -- Windows of a level, and the rows of them that are the level's.
-use Rattle.std.proofs.Common.{◌≡◌, ℕ, ℤ, pos, ◌+◌, ◌-◌, ◌*◌, ◌/◌, ◌%◌, ◌<◌, ◌≤◌, ◌==◌, if◌then◌else◌, min, List, length, get_or, arith, inl, inr, ap, ap₂, sym, ◌∙◌, subst, eq-eqb}
+use Rattle.std.proofs.Common.{◌≡◌, ℕ, ℤ, pos, ◌+◌, ◌-◌, ◌*◌, ◌/◌, ◌%◌, ◌<◌, ◌≤◌, ◌==◌, if◌then◌else◌, List, length, get_or, arith, inl, inr, ap, ap₂, sym, ◌∙◌, subst, eq-eqb}
 use Rattle.std.specs.Prelude.{slice_range}
 use Rattle.std.proofs.lemmas.Bool.{cases_eq, ne_eqb}
 use Rattle.std.proofs.lemmas.List.{ext_get_or}
 use Rattle.dirac_common.proofs.Rows.{filled_at}
-use Rattle.dirac_lift.specs.Halves.{from_halves, place_of}
+use Rattle.dirac_lift.specs.Halves.{from_halves, place_in_halves}
 use Rattle.dirac_lift.specs.Level.{column, row_in, synthesised}
 use Rattle.dirac_lift.specs.Wavelets.{synth}
-use Rattle.dirac_lift.specs.Windows.{AreInside, WindowsHaveRows, WindowsHaveStrips, margin, window, window_half}
+use Rattle.dirac_lift.specs.Windows.{AreInsideWindow, WindowsHaveRows, WindowsHaveStrips, margin, window, window_half}
 use Rattle.dirac_lift.proofs.ColumnLemmas.{column_at, length-column}
 use Rattle.dirac_lift.proofs.HalfPlanes.{filled_len, finished, level_at, level_filled, lifted_columns}
 use Rattle.dirac_lift.proofs.RowLemmas.{length-row, row_at}
 use Rattle.dirac_lift.proofs.WindowHalves.{half_at, row_is_strip, strips_alike}
 use Rattle.dirac_lift.proofs.WindowLines.{IsWindow, window_synth}
 
-place_inside : (w x : ℕ) → x < w → place_of w x < w
+place_inside : (w x : ℕ) → x < w → place_in_halves w x < w
 place_inside w x l = elim (cases_eq (x % 2) 0) [
   | inl even ↦ rw (eq-eqb (x % 2) 0 even) (omega (arith, l))
   | inr odd ↦ rw (ne_eqb (x % 2) 0 odd) (omega (arith, l, odd))
@@ -22,7 +22,7 @@ place_inside w x l = elim (cases_eq (x % 2) 0) [
 
 -- a value of a level by its halves
 abbrev told_at : ℕ → List ℤ → List ℤ → ℕ → ℕ → ℤ
-told_at w es os x y = get_or (if y % 2 == 0 then es else os) (y / 2 * w + place_of w x) (pos 0)
+told_at w es os x y = get_or (if y % 2 == 0 then es else os) (y / 2 * w + place_in_halves w x) (pos 0)
 
 told_alike : (w a b : ℕ) (es os : List ℤ) (x p : ℕ) → a ≤ b → x < w → p < 2 * (b - a) → told_at w (window_half w a b es) (window_half w a b os) x p ≡ told_at w es os x (2 * a + p)
 told_alike w a b es os x p fits l k =
@@ -30,8 +30,8 @@ told_alike w a b es os x p fits l k =
     let pair : (2 * a + p) / 2 ≡ a + p / 2 = omega arith in
     let inside : p / 2 < b - a = omega (arith, k) in
     elim (cases_eq (p % 2) 0) [
-      | inl even ↦ rw (parity, eq-eqb (p % 2) 0 even, pair) (half_at w a b es (p / 2) (place_of w x) fits inside (place_inside w x l))
-      | inr odd ↦ rw (parity, ne_eqb (p % 2) 0 odd, pair) (half_at w a b os (p / 2) (place_of w x) fits inside (place_inside w x l))
+      | inl even ↦ rw (parity, eq-eqb (p % 2) 0 even, pair) (half_at w a b es (p / 2) (place_in_halves w x) fits inside (place_inside w x l))
+      | inr odd ↦ rw (parity, ne_eqb (p % 2) 0 odd, pair) (half_at w a b os (p / 2) (place_in_halves w x) fits inside (place_inside w x l))
     ]
 
 -- the columns of a window are windows of the level's columns
@@ -87,7 +87,7 @@ level_len k w h es os =
     ap (λ t. length t.values) (sym (level_filled k w h es os)) ∙ filled_len w (2 * h) (level_at k w h es os)
 
 -- value by value
-pub window_value : (k w h a b from to : ℕ) (es os : List ℤ) (x y : ℕ) → k ≤ 6 → AreInside k h a b from to → x < w → from ≤ y → y < to
+pub window_value : (k w h a b from to : ℕ) (es os : List ℤ) (x y : ℕ) → k ≤ 6 → AreInsideWindow k h a b from to → x < w → from ≤ y → y < to
     → get_or (synthesised k (window w a b es os)).values ((y - 2 * a) * w + x) (pos 0) ≡ get_or (synthesised k (from_halves w h es os)).values (y * w + x) (pos 0)
 window_value k w h a b from to es os x y wavelet inside l le lt =
     let p : ℕ = y - 2 * a in
@@ -103,7 +103,7 @@ window_value k w h a b from to es os x y wavelet inside l le lt =
     ∙ sym (level_value k w h es os x y l (omega (arith, inside.last, inside.down, lt)))
 
 -- the rows of a strip
-strip : (k w h a b c n : ℕ) (es os : List ℤ) → k ≤ 6 → AreInside k h a b (2 * a + c) (2 * a + c + n)
+strip : (k w h a b c n : ℕ) (es os : List ℤ) → k ≤ 6 → AreInsideWindow k h a b (2 * a + c) (2 * a + c + n)
     → slice_range (synthesised k (window w a b es os)).values (c * w) ((c + n) * w) ≡ slice_range (synthesised k (from_halves w h es os)).values ((2 * a + c) * w) ((2 * a + c + n) * w)
 strip k w h a b c n es os wavelet inside =
     strips_alike w n c (2 * a + c) (2 * (b - a)) (2 * h) (synthesised k (window w a b es os)).values (synthesised k (from_halves w h es os)).values
@@ -121,7 +121,7 @@ windows_have_strips k w h a b from to es os wavelet inside =
     let begin : 2 * a + c ≡ from = omega (arith, inside.first) in
     let end : 2 * a + c + n ≡ to = omega (arith, begin, inside.ordered) in
     let last : c + n ≡ to - 2 * a = omega (arith, inside.first, inside.ordered) in
-    let moved : AreInside k h a b (2 * a + c) (2 * a + c + n) = subst (λ i. AreInside k h a b i (2 * a + c + n)) (sym begin) (subst (AreInside k h a b from) (sym end) inside) in
+    let moved : AreInsideWindow k h a b (2 * a + c) (2 * a + c + n) = subst (λ i. AreInsideWindow k h a b i (2 * a + c + n)) (sym begin) (subst (AreInsideWindow k h a b from) (sym end) inside) in
     ap (λ i. slice_range (synthesised k (window w a b es os)).values (c * w) (i * w)) (sym last)
     ∙ strip k w h a b c n es os wavelet moved
     ∙ ap₂ (λ i j. slice_range (synthesised k (from_halves w h es os)).values (i * w) (j * w)) begin end
@@ -133,21 +133,3 @@ windows_have_rows k w h a b y es os wavelet inside =
     ∙ ap (λ i. slice_range (synthesised k (window w a b es os)).values ((y - 2 * a) * w) (i * w)) (sym next)
     ∙ windows_have_strips k w h a b y (y + 1) es os wavelet inside
     ∙ sym (row_is_strip w y (synthesised k (from_halves w h es os)).values)
-
--- a margin is at most 7, and as many pairs more at both ends are enough
-pub margin_most : (k : ℕ) → margin k ≤ 7
-margin_most k = elim (cases_eq k 5) [
-  | inl five ↦ rw (eq-eqb k 5 five) (omega arith)
-  | inr other ↦ rw (ne_eqb k 5 other) (omega arith)
-]
-
-pub inside_wider : (k h m from to : ℕ) → margin k ≤ m → from < to → to ≤ 2 * h → AreInside k h (from / 2 - m) (min h ((to + 1) / 2 + m)) from to
-inside_wider k h m from to enough l fits = record {
-  some = omega (arith, l, fits);
-  down = omega arith;
-  ordered = omega (arith, l);
-  first = omega arith;
-  last = omega (arith, fits);
-  above = λ z. omega (arith, z, enough);
-  below = λ z. omega (arith, z, enough);
-}

@@ -13,7 +13,7 @@ use Rattle.dirac_lift.specs.Rings.{AfterTurns, most_of}
 abbrev pub lines_of : ℕ → ℕ → List ℤ → List ℤ → ℕ → List ℤ
 lines_of w h es os p = column (from_halves w h es os).values w (2 * h) (column_of w p)
 
--- how many turns after it came a pair of rows is finished
+-- how many turns after it came a pair of rows is given: by then all steps have gone over it
 abbrev pub turns_behind : ℕ → ℕ
 turns_behind wavelet = if wavelet == 5 then 7 else 3
 
@@ -38,7 +38,7 @@ pub record IsAtWork (es os : List ℤ) (l : LinesAtWork) : Type 0 where
   pub hold : AfterTurns l.wavelet l.size.width l.size.half l.turn l.turn (lines_of l.size.width l.size.half es os)
       l.evens.items l.odds.items
 
--- a level of h pairs of rows of w columns that has given the first n pairs
+-- a level of h pairs of rows of w columns that has given the even row of each of the first n pairs, and of no other
 pub record HasGiven (k w h n : ℕ) (l : LinesAtWork) : Type 0 where
   pub wavelet : l.wavelet ≡ k
   pub width : l.size.width ≡ w

@@ -2,15 +2,15 @@
 use Rattle.std.specs.Prelude.{◌≡◌, ℕ, ℤ, Bool, true, ◌&&◌, nat_le, ◌-◌, ◌*◌, ◌^◌, ◌<◌, ◌≤◌, ◌==◌, List, [], ◌∷◌, length}
 use Rattle.std.specs.Prelude.{unsigned_abs, if◌then◌else◌}
 use Rattle.std.specs.List.{All, sum_by}
-use Rattle.dirac_lift.specs.Halves.{AreHalves}
+use Rattle.dirac_lift.specs.Halves.{AreHalvesOfLine}
 use Rattle.dirac_lift.specs.Level.{column}
-use Rattle.dirac_lift.specs.Lifting.{Step, grown}
+use Rattle.dirac_lift.specs.Lifting.{Step, grown_by_step}
 use Rattle.dirac_lift.specs.Wavelets.{run, steps_of}
 
 -- how large values at even and at odd places become by a step
 abbrev pub after_step : Step → ℕ × ℕ → ℕ × ℕ
 after_step s (evens, odds) =
-    if s.parity == 0 then (grown s evens odds, odds) else (evens, grown s odds evens)
+    if s.parity == 0 then (grown_by_step s evens odds, odds) else (evens, grown_by_step s odds evens)
 
 -- how large they become by all steps
 abbrev pub after_steps : List Step → ℕ × ℕ → ℕ × ℕ
@@ -44,8 +44,8 @@ pub record AreNarrow (ss : List Step) (w h : ℕ) (evens odds : List ℤ) : Type
 pub record HalvesRun (ss : List Step) (w h : ℕ) (evens odds new_evens new_odds : List ℤ) : Type 0 where
   pub evens_len : length new_evens ≡ length evens
   pub odds_len : length new_odds ≡ length odds
-  pub each : (x : ℕ) (line : List ℤ) → x < w → AreHalves 0 (column evens w h x) (column odds w h x) line
-      → AreHalves 0 (column new_evens w h x) (column new_odds w h x) (run ss line)
+  pub each : (x : ℕ) (line : List ℤ) → x < w → AreHalvesOfLine 0 (column evens w h x) (column odds w h x) line
+      → AreHalvesOfLine 0 (column new_evens w h x) (column new_odds w h x) (run ss line)
   pub grow : (most : ℕ × ℕ) → All (λ v. unsigned_abs v ≤ most.0) evens → All (λ v. unsigned_abs v ≤ most.1) odds
       → All (λ v. unsigned_abs v ≤ (after_steps ss most).0) new_evens
       × All (λ v. unsigned_abs v ≤ (after_steps ss most).1) new_odds

@@ -30,19 +30,19 @@ pub record IsReadable (taps reads : List ℤ) : Type 0 where
   pub fits : sum_by unsigned_abs taps * bound ≤ 2 ^ 31 - 2 ^ 22
 
 -- the two halves of a line, of which a step changes the first
-pub record AreHalves (parity : ℕ) (owns reads line : List ℤ) : Type 0 where
+pub record AreHalvesOfLine (parity : ℕ) (owns reads line : List ℤ) : Type 0 where
   pub len : length line ≡ 2 * length owns
   pub alike : length reads ≡ length owns
   pub changed : (n : ℕ) → slice_index_or line (own parity n) (pos 0) ≡ slice_index_or owns n (pos 0)
   pub read : (n : ℕ) → slice_index_or line (other parity n) (pos 0) ≡ slice_index_or reads n (pos 0)
 
 -- the place of column x in a row whose even columns stand before its odd ones
-abbrev pub place_of : ℕ → ℕ → ℕ
-place_of width x = if x % 2 == 0 then x / 2 else width / 2 + x / 2
+abbrev pub place_in_halves : ℕ → ℕ → ℕ
+place_in_halves width x = if x % 2 == 0 then x / 2 else width / 2 + x / 2
 
 -- the plane whose even rows stand in one list and whose odd rows in another, h of each, in each row the even columns
 -- before the odd ones
 abbrev pub from_halves : ℕ → ℕ → List ℤ → List ℤ → Table
 from_halves w h evens odds =
     table_of w (2 * h)
-    (λ x y. slice_index_or (if y % 2 == 0 then evens else odds) (y / 2 * w + place_of w x) (pos 0))
+    (λ x y. slice_index_or (if y % 2 == 0 then evens else odds) (y / 2 * w + place_in_halves w x) (pos 0))

@@ -4,6 +4,6 @@ use Rattle.dirac_lift.specs.declared.held.Held.{Held}
 use Rattle.dirac_lift.specs.declared.held.Held.TheVariants.{Narrow, Wide}
 
 -- the table that is held
-abbrev pub held_table : Held → Table
-held_table (Wide t) = t
-held_table (Narrow t) = t
+abbrev pub held_plane : Held → Table
+held_plane (Wide t) = t
+held_plane (Narrow t) = t

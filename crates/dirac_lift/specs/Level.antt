@@ -35,18 +35,18 @@ abbrev pub doubled : ℤ → ℤ
 doubled v = v +ℤ v
 
 -- the last halving of a level, where the wavelet's shift is 1
-abbrev pub ended : ℕ → List ℤ → List ℤ
-ended wavelet xs = if has_shift wavelet then map halved xs else xs
+abbrev pub last_halved : ℕ → List ℤ → List ℤ
+last_halved wavelet xs = if has_shift wavelet then map halved xs else xs
 
 -- the first doubling, which that halving takes back
-abbrev pub begun : ℕ → List ℤ → List ℤ
-begun wavelet xs = if has_shift wavelet then map doubled xs else xs
+abbrev pub first_doubled : ℕ → List ℤ → List ℤ
+first_doubled wavelet xs = if has_shift wavelet then map doubled xs else xs
 
 -- the synthesis of a plane whose four bands are interleaved
 abbrev pub synthesised : ℕ → Table → Table
 synthesised wavelet t =
     let lifted = rows_by (synth wavelet) (columns_by (synth wavelet) t) in
-    record lifted { values = ended wavelet lifted.values }
+    record lifted { values = last_halved wavelet lifted.values }
 
 -- the next level's LL band, of the four bands of one level
 abbrev pub level : ℕ → Table → Table → Table → Table → Table
@@ -55,4 +55,4 @@ level wavelet ll hl lh hh = synthesised wavelet (joined ll hl lh hh)
 -- the analysis of a plane, which leaves its four bands interleaved
 abbrev pub analysed : ℕ → Table → Table
 analysed wavelet t =
-    columns_by (analyse wavelet) (rows_by (analyse wavelet) (record t { values = begun wavelet t.values }))
+    columns_by (analyse wavelet) (rows_by (analyse wavelet) (record t { values = first_doubled wavelet t.values }))

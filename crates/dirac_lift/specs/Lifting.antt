@@ -68,5 +68,5 @@ abbrev pub PlacesWithin : ℕ → ℕ → List ℤ → Type 0
 PlacesWithin b parity xs = (n : ℕ) → unsigned_abs (slice_index_or xs (2 * n + parity) (pos 0)) ≤ b
 
 -- how large changed values become, if they were at most a and those read are at most b
-abbrev pub grown : Step → ℕ → ℕ → ℕ
-grown s a b = a + (sum_by unsigned_abs s.taps * b + 2 ^ s.shift / 2) / 2 ^ s.shift
+abbrev pub grown_by_step : Step → ℕ → ℕ → ℕ
+grown_by_step s a b = a + (sum_by unsigned_abs s.taps * b + 2 ^ s.shift / 2) / 2 ^ s.shift

@@ -44,8 +44,8 @@ pub record RingsHold (parity w h lo hi : ℕ) (lines : ℕ → List ℤ) (owns r
 abbrev pub coming : Step
 coming = record { parity = 0; minus = false; shift = 0; lead = 0; taps = [] }
 
-abbrev pub waiting : ℕ → List Timed
-waiting wavelet = timed_behind coming 0 (steps_of wavelet)
+abbrev pub steps_to_come : ℕ → List Timed
+steps_to_come wavelet = timed_behind coming 0 (steps_of wavelet)
 
 -- lines that are narrow as they come
 pub record AreNarrowLines (w : ℕ) (lines : ℕ → List ℤ) : Type 0 where
@@ -59,7 +59,7 @@ most_of wavelet = after_steps (steps_of wavelet) (LARGEST_NARROW, LARGEST_NARROW
 -- the rings hold what m turns have made of lines, the last 16 rows of each
 abbrev pub AfterTurns : ℕ → ℕ → ℕ → ℕ → ℕ → (ℕ → List ℤ) → List ℤ → List ℤ → Type 0
 AfterTurns wavelet w h m hi lines evens odds =
-    RingsHold 0 w h (hi - 16) hi (λ x. turns (waiting wavelet) m (lines x)) evens odds
+    RingsHold 0 w h (hi - 16) hi (λ x. turns (steps_to_come wavelet) m (lines x)) evens odds
 
 -- rings in which turn m can be run
 pub record CanTurn (wavelet w h m : ℕ) (evens odds : List ℤ) : Type 0 where

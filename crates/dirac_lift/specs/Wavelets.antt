@@ -34,12 +34,12 @@ abbrev pub two : ℕ → List ℤ
 two tap = pos tap ∷ pos tap ∷ []
 
 -- the four taps of the Deslauriers-Dubuc wavelets
-abbrev pub four : List ℤ
-four = minus 1 ∷ pos 9 ∷ pos 9 ∷ minus 1 ∷ []
+abbrev pub four_taps : List ℤ
+four_taps = minus 1 ∷ pos 9 ∷ pos 9 ∷ minus 1 ∷ []
 
 -- wavelet 0
 abbrev pub deslauriers_dubuc_9_7 : List Step
-deslauriers_dubuc_9_7 = even_minus 2 (pos 0) (two 1) ∷ odd_plus 4 (minus 1) four ∷ []
+deslauriers_dubuc_9_7 = even_minus 2 (pos 0) (two 1) ∷ odd_plus 4 (minus 1) four_taps ∷ []
 
 -- wavelet 1
 abbrev pub legall_5_3 : List Step
@@ -47,7 +47,7 @@ legall_5_3 = even_minus 2 (pos 0) (two 1) ∷ odd_plus 1 (pos 0) (two 1) ∷ []
 
 -- wavelet 2
 abbrev pub deslauriers_dubuc_13_7 : List Step
-deslauriers_dubuc_13_7 = even_minus 5 (minus 1) four ∷ odd_plus 4 (minus 1) four ∷ []
+deslauriers_dubuc_13_7 = even_minus 5 (minus 1) four_taps ∷ odd_plus 4 (minus 1) four_taps ∷ []
 
 -- wavelet 3, and with a shift wavelet 4
 abbrev pub haar : List Step

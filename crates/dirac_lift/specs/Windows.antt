@@ -20,7 +20,7 @@ window w a b evens odds = from_halves w (b - a) (window_half w a b evens) (windo
 
 -- rows from .. to of a level of h pairs are in the window of pairs a .. b, and a margin away from each end of it that
 -- isn't an end of the level
-pub record AreInside (wavelet h a b from to : ℕ) : Type 0 where
+pub record AreInsideWindow (wavelet h a b from to : ℕ) : Type 0 where
   pub some : a < b
   pub down : b ≤ h
   pub ordered : from ≤ to
@@ -32,13 +32,13 @@ pub record AreInside (wavelet h a b from to : ℕ) : Type 0 where
 -- such a row of the level is a row of the synthesised window
 abbrev pub WindowsHaveRows : Type 0
 WindowsHaveRows =
-    (wavelet w h a b y : ℕ) (evens odds : List ℤ) → IsWavelet wavelet → AreInside wavelet h a b y (y + 1)
+    (wavelet w h a b y : ℕ) (evens odds : List ℤ) → IsWavelet wavelet → AreInsideWindow wavelet h a b y (y + 1)
     → row_in (synthesised wavelet (window w a b evens odds)).values w (y - 2 * a)
     ≡ row_in (synthesised wavelet (from_halves w h evens odds)).values w y
 
 -- and such rows of the level, as one list, are rows of it
 abbrev pub WindowsHaveStrips : Type 0
 WindowsHaveStrips =
-    (wavelet w h a b from to : ℕ) (evens odds : List ℤ) → IsWavelet wavelet → AreInside wavelet h a b from to
+    (wavelet w h a b from to : ℕ) (evens odds : List ℤ) → IsWavelet wavelet → AreInsideWindow wavelet h a b from to
     → slice_range (synthesised wavelet (window w a b evens odds)).values ((from - 2 * a) * w) ((to - 2 * a) * w)
     ≡ slice_range (synthesised wavelet (from_halves w h evens odds)).values (from * w) (to * w)

@@ -1,14 +1,13 @@
-ghost use Rattle.std.specs.Prelude.{◌≡◌, ℕ, ℤ, List, pos, ◌+◌, ◌-◌, ◌*◌, ◌^◌, ◌<◌, ◌≤◌, length, map, slice_index_or};
+ghost use Rattle.std.specs.Prelude.{◌≡◌, ℤ, List, pos, ◌+◌, ◌-◌, ◌*◌, ◌^◌, ◌<◌, ◌≤◌, length, map, slice_index_or};
 ghost use Rattle.std.specs.Prelude.{slice_set, unsigned_abs};
 ghost use Rattle.std.specs.List.{All};
-ghost use Rattle.dirac_lift.specs.Halves.{AreHalves};
+ghost use Rattle.dirac_lift.specs.Halves.{AreHalvesOfLine};
 ghost use Rattle.dirac_lift.specs.Lanes.{EightPairsPut};
-ghost use Rattle.dirac_lift.specs.Level.{ended};
+ghost use Rattle.dirac_lift.specs.Level.{last_halved};
 ghost use Rattle.dirac_lift.specs.Lifting.{rounded};
 
-use crate::half_lanes::rounded_lanes;
 use crate::halves::rounded_sum;
-use crate::lanes::{first_in_turn, lanes_at, last_in_turn, put_lanes};
+use crate::lanes::{first_in_turn, lanes_at, last_in_turn, put_lanes, rounded_lanes};
 use crate::wavelets::halves;
 
 /// Puts eight pairs of a line from pair `n` on, each value divided by 2 to the power `shift`, to the nearest.
@@ -54,7 +53,7 @@ fn put_pairs(low: &[i32], high: &[i32], line: &mut [i32], shift: u32)
     requires shift { shift ≤ 12 }
     requires low { All (λ v. unsigned_abs v ≤ 2 ^ 31 - 2 ^ 22) low.now }
     requires high { All (λ v. unsigned_abs v ≤ 2 ^ 31 - 2 ^ 22) high.now }
-    ensures { (whole : List ℤ) → AreHalves 0 low.now high.now whole → line.new ≡ map (rounded shift) whole }
+    ensures { (whole : List ℤ) → AreHalvesOfLine 0 low.now high.now whole → line.new ≡ map (rounded shift) whole }
 {
     let eights = low.len() / 8;
     'eights: for i in 0..eights {
@@ -71,7 +70,7 @@ pub fn put_line(wavelet: u8, low: &[i32], high: &[i32], line: &mut [i32])
     requires line { length line.old ≡ 2 * length low.now }
     requires low { All (λ v. unsigned_abs v ≤ 2 ^ 31 - 2 ^ 22) low.now }
     requires high { All (λ v. unsigned_abs v ≤ 2 ^ 31 - 2 ^ 22) high.now }
-    ensures { (whole : List ℤ) → AreHalves 0 low.now high.now whole → line.new ≡ ended wavelet whole }
+    ensures { (whole : List ℤ) → AreHalvesOfLine 0 low.now high.now whole → line.new ≡ last_halved wavelet whole }
 {
     if halves(wavelet) {
         put_pairs(low, high, line, 1);

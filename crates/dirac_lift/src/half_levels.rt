@@ -4,12 +4,12 @@ ghost use Rattle.std.specs.Prelude.{◌≡◌, ℕ, ℤ, List, ◌+◌, ◌-◌,
 ghost use Rattle.std.specs.Prelude.{take, drop, unsigned_abs, IfOk};
 ghost use Rattle.std.specs.List.{All};
 ghost use Rattle.dirac_common.specs.Limits.{IsWavelet};
-ghost use Rattle.dirac_lift.specs.AtWork.{AreRings, HasGiven, IsAtWork, turns_behind};
+ghost use Rattle.dirac_lift.specs.AtWork.{HasGiven, IsAtWork, turns_behind};
 ghost use Rattle.dirac_lift.specs.ByLines.{longest_wait};
-ghost use Rattle.dirac_lift.specs.Halves.{AreHalves, from_halves};
+ghost use Rattle.dirac_lift.specs.Halves.{AreHalvesOfLine, from_halves};
 ghost use Rattle.dirac_lift.specs.HalfRuns.{AreNarrow};
-ghost use Rattle.dirac_lift.specs.Level.{ended, row_in, synthesised};
-ghost use Rattle.dirac_lift.specs.Rings.{RowCame, waiting};
+ghost use Rattle.dirac_lift.specs.Level.{last_halved, row_in, synthesised};
+ghost use Rattle.dirac_lift.specs.Rings.{RowCame, steps_to_come};
 ghost use Rattle.dirac_lift.specs.Wavelets.{steps_of, synth};
 
 use crate::half_lines::finish_half_line;
@@ -46,8 +46,8 @@ fn finish_row(wavelet: u8, half: usize, row: &mut [i32], line: &mut [i32])
     requires row { length row.old ≡ 2 * half }
     requires line { length line.old ≡ 2 * half }
     requires narrow { AreNarrow (steps_of wavelet) 1 half (take half row.old) (drop half row.old) }
-    ensures { (whole : List ℤ) → AreHalves 0 (take half row.old) (drop half row.old) whole
-        → line.new ≡ ended wavelet (synth wavelet whole) }
+    ensures { (whole : List ℤ) → AreHalvesOfLine 0 (take half row.old) (drop half row.old) whole
+        → line.new ≡ last_halved wavelet (synth wavelet whole) }
 {
     let (low, high) = row.split_at_mut(half);
     finish_half_line(wavelet, low, high, line);
@@ -69,8 +69,9 @@ fn finish_from_ring(
     requires line { length line.old ≡ width }
     requires narrow { AreNarrow (steps_of wavelet) 1 (width / 2) (take (width / 2) (row_in ring.now width (n % 16)))
         (drop (width / 2) (row_in ring.now width (n % 16))) }
-    ensures { (whole : List ℤ) → AreHalves 0 (take (width / 2) (row_in ring.now width (n % 16)))
-        (drop (width / 2) (row_in ring.now width (n % 16))) whole → line.new ≡ ended wavelet (synth wavelet whole) }
+    ensures { (whole : List ℤ) → AreHalvesOfLine 0 (take (width / 2) (row_in ring.now width (n % 16)))
+        (drop (width / 2) (row_in ring.now width (n % 16))) whole → line.new
+        ≡ last_halved wavelet (synth wavelet whole) }
 {
     let start = n % RING_ROWS * width;
     work.copy_from_slice(&ring[start..start + width]);
@@ -104,11 +105,11 @@ fn take_pair<S: RowPairs>(
     source.put_pair(turn as u32, &mut evens[start..end], &mut odds[start..end]);
 }
 
-/// How many turns after it came a pair of rows is finished.
+/// How many turns after it came a pair of rows is given: by then all steps have gone over it.
 fn turns_to_wait(wavelet: u8) -> usize
     requires { IsWavelet wavelet }
     ensures value { result ≡ turns_behind wavelet }
-    ensures enough { longest_wait (waiting wavelet) ≤ result }
+    ensures enough { longest_wait (steps_to_come wavelet) ≤ result }
     ensures at_most_7 { result ≤ 7 }
 {
     if wavelet == 5 { 7 } else { 3 }
@@ -128,7 +129,7 @@ pub struct LinesAtWork {
 fn ring_of_zeros(alloc: Global, width: usize) -> Result<Vec<i32>, NoMemory>
     requires { width ≤ LARGEST_TABLE_SIDE }
     ensures len { IfOk result (λ ring. length ring.items ≡ width * 16) }
-    ensures small { IfOk result (λ ring. All (λ v. unsigned_abs v ≤ LARGEST_NARROW) ring.items) }
+    ensures at_most_4095 { IfOk result (λ ring. All (λ v. unsigned_abs v ≤ LARGEST_NARROW) ring.items) }
 {
     Ok(vec![in alloc; 0i32; width * RING_ROWS]?)
 }
@@ -203,34 +204,6 @@ impl LinesAtWork {
         self.turn - 1 - turns_to_wait(self.wavelet)
     }
 
-    /// Writes the even row that the last turn has finished; `work` is a place to work.
-    fn put_even(&self, work: &mut [i32], line: &mut [i32])
-        requires rings { AreRings self.now }
-        requires turn { turns_behind self.now.wavelet < self.now.turn }
-        requires work { length work.old ≡ self.now.size.width }
-        requires line { length line.old ≡ self.now.size.width }
-        ensures { (k w h n : ℕ) (es os : List ℤ) → IsAtWork es os self.now → HasGiven k w h (n + 1) self.now → n < h
-            → line.new ≡ row_in (synthesised k (from_halves w h es os)).values w (2 * n) }
-    {
-        let n = self.finished();
-        let ring = self.evens.as_slice();
-        finish_from_ring(self.wavelet, ring, self.size.width, n, work, line);
-    }
-
-    /// Writes the odd row that the last turn has finished; `work` is a place to work.
-    fn put_odd(&self, work: &mut [i32], line: &mut [i32])
-        requires rings { AreRings self.now }
-        requires turn { turns_behind self.now.wavelet < self.now.turn }
-        requires work { length work.old ≡ self.now.size.width }
-        requires line { length line.old ≡ self.now.size.width }
-        ensures { (k w h n : ℕ) (es os : List ℤ) → IsAtWork es os self.now → HasGiven k w h (n + 1) self.now → n < h
-            → line.new ≡ row_in (synthesised k (from_halves w h es os)).values w (2 * n + 1) }
-    {
-        let n = self.finished();
-        let ring = self.odds.as_slice();
-        finish_from_ring(self.wavelet, ring, self.size.width, n, work, line);
-    }
-
     /// Writes row `y`, the next one; `work` is a place to work.
     #[inline(always)]
     pub fn next_row<S: RowPairs>(&mut self, source: &S, y: u32, work: &mut [i32], line: &mut [i32])
@@ -249,9 +222,13 @@ impl LinesAtWork {
     {
         if y % 2 == 0 {
             self.take_turn(source);
-            self.put_even(work, line);
+            let n = self.finished();
+            let ring = self.evens.as_slice();
+            finish_from_ring(self.wavelet, ring, self.size.width, n, work, line);
         } else {
-            self.put_odd(work, line);
+            let n = self.finished();
+            let ring = self.odds.as_slice();
+            finish_from_ring(self.wavelet, ring, self.size.width, n, work, line);
         }
     }
 }

@@ -1,66 +1,36 @@
 //! The synthesis and the analysis of lines in 32 bits, from their even and odd places in lists of their own.
-ghost use Rattle.std.specs.Prelude.{◌≡◌, ℕ, List, ℤ, ◌*◌, ◌-◌, ◌^◌, ◌<◌, ◌≤◌, length, map, unsigned_abs};
+ghost use Rattle.std.specs.Prelude.{◌≡◌, List, ℤ, ◌*◌, ◌-◌, ◌^◌, ◌≤◌, length, unsigned_abs};
 ghost use Rattle.std.specs.List.{All};
 ghost use Rattle.dirac_common.specs.Limits.{IsWavelet};
-ghost use Rattle.dirac_lift.specs.Halves.{AreHalves};
+ghost use Rattle.dirac_lift.specs.Halves.{AreHalvesOfLine};
 ghost use Rattle.dirac_lift.specs.HalfRuns.{AreNarrow, HalvesRun};
-ghost use Rattle.dirac_lift.specs.Level.{ended};
-ghost use Rattle.dirac_lift.specs.Wavelets.{analyse, analyse_bound, steps_of, synth, taken_back};
+ghost use Rattle.dirac_lift.specs.Level.{last_halved};
+ghost use Rattle.dirac_lift.specs.Wavelets.{analyse, steps_of, synth, taken_back};
 
 use crate::half_ends::put_line;
 use crate::halves::Halves;
 use crate::wavelets;
 use dirac_common::LARGEST_NARROW;
 
-/// Synthesis of `width` lines of `2 * half` values from their halves, in place.
-#[inline(always)]
-fn synth_halves(wavelet: u8, evens: &mut [i32], odds: &mut [i32], width: usize, half: usize)
-    requires wavelet { IsWavelet wavelet }
-    requires narrow { AreNarrow (steps_of wavelet) width half evens.old odds.old }
-    ensures { HalvesRun (steps_of wavelet) width half evens.old odds.old evens.new odds.new }
-{
-    let mut lines = Halves {
-        evens,
-        odds,
-        width,
-        half,
-    };
-    wavelets::synthesise(wavelet, &mut lines);
-}
-
-/// The synthesis of all columns of a plane from its even rows and its odd ones, whose values are small.
-#[inline(never)]
-pub fn synth_half_columns(
-    wavelet: u8,
-    evens: &mut [i32],
-    odds: &mut [i32],
-    width: usize,
-    half: usize,
-)
-    requires wavelet { IsWavelet wavelet }
-    requires at_least_1 { 1 ≤ width }
-    requires evens { length evens.old ≡ width * half }
-    requires odds { length odds.old ≡ width * half }
-    requires evens_at_most_4095 { All (λ v. unsigned_abs v ≤ LARGEST_NARROW) evens.old }
-    requires odds_at_most_4095 { All (λ v. unsigned_abs v ≤ LARGEST_NARROW) odds.old }
-    ensures { HalvesRun (steps_of wavelet) width half evens.old odds.old evens.new odds.new }
-{
-    synth_halves(wavelet, evens, odds, width, half);
-}
-
 /// The synthesis of a single line from its halves.
 #[inline(never)]
-fn synth_half_line(wavelet: u8, low: &mut [i32], high: &mut [i32])
+pub fn synth_half_line(wavelet: u8, low: &mut [i32], high: &mut [i32])
     requires wavelet { IsWavelet wavelet }
     requires alike { length high.old ≡ length low.old }
     requires narrow { AreNarrow (steps_of wavelet) 1 (length low.old) low.old high.old }
-    ensures value { (line : List ℤ) → AreHalves 0 low.old high.old line
-        → AreHalves 0 low.new high.new (synth wavelet line) }
+    ensures value { (line : List ℤ) → AreHalvesOfLine 0 low.old high.old line
+        → AreHalvesOfLine 0 low.new high.new (synth wavelet line) }
     ensures low_bound { All (λ v. unsigned_abs v ≤ 2 ^ 31 - 2 ^ 22) low.new }
     ensures high_bound { All (λ v. unsigned_abs v ≤ 2 ^ 31 - 2 ^ 22) high.new }
 {
     let half = low.len();
-    synth_halves(wavelet, low, high, 1, half);
+    let mut lines = Halves {
+        evens: low,
+        odds: high,
+        width: 1,
+        half,
+    };
+    wavelets::synthesise(wavelet, &mut lines);
 }
 
 /// A finished line of a level from its halves: synthesised, then halved where the wavelet's shift is 1.
@@ -69,7 +39,8 @@ pub fn finish_half_line(wavelet: u8, low: &mut [i32], high: &mut [i32], line: &m
     requires alike { length high.old ≡ length low.old }
     requires line { length line.old ≡ 2 * length low.old }
     requires narrow { AreNarrow (steps_of wavelet) 1 (length low.old) low.old high.old }
-    ensures { (whole : List ℤ) → AreHalves 0 low.old high.old whole → line.new ≡ ended wavelet (synth wavelet whole) }
+    ensures { (whole : List ℤ) → AreHalvesOfLine 0 low.old high.old whole → line.new
+        ≡ last_halved wavelet (synth wavelet whole) }
 {
     synth_half_line(wavelet, low, high);
     put_line(wavelet, low, high, line);
@@ -77,7 +48,7 @@ pub fn finish_half_line(wavelet: u8, low: &mut [i32], high: &mut [i32], line: &m
 
 /// Analysis of `width` lines of `2 * half` values from their halves, in place.
 #[inline(always)]
-fn analyse_halves(wavelet: u8, evens: &mut [i32], odds: &mut [i32], width: usize, half: usize)
+pub fn analyse_halves(wavelet: u8, evens: &mut [i32], odds: &mut [i32], width: usize, half: usize)
     requires wavelet { IsWavelet wavelet }
     requires narrow { AreNarrow (taken_back (steps_of wavelet)) width half evens.old odds.old }
     ensures { HalvesRun (taken_back (steps_of wavelet)) width half evens.old odds.old evens.new odds.new }
@@ -91,26 +62,6 @@ fn analyse_halves(wavelet: u8, evens: &mut [i32], odds: &mut [i32], width: usize
     wavelets::analyse(wavelet, &mut lines);
 }
 
-/// The analysis of all columns of a plane from its even rows and its odd ones, which have been analysed as rows.
-#[inline(never)]
-pub fn analyse_half_columns(
-    wavelet: u8,
-    evens: &mut [i32],
-    odds: &mut [i32],
-    width: usize,
-    half: usize,
-)
-    requires wavelet { IsWavelet wavelet }
-    requires at_least_1 { 1 ≤ width }
-    requires evens { length evens.old ≡ width * half }
-    requires odds { length odds.old ≡ width * half }
-    requires evens_bounded { All (λ v. unsigned_abs v ≤ analyse_bound (2 * LARGEST_NARROW)) evens.old }
-    requires odds_bounded { All (λ v. unsigned_abs v ≤ analyse_bound (2 * LARGEST_NARROW)) odds.old }
-    ensures { HalvesRun (taken_back (steps_of wavelet)) width half evens.old odds.old evens.new odds.new }
-{
-    analyse_halves(wavelet, evens, odds, width, half);
-}
-
 /// The analysis of a single line from its halves, whose values have been doubled where the wavelet's shift is 1.
 #[inline(never)]
 pub fn analyse_half_line(wavelet: u8, low: &mut [i32], high: &mut [i32])
@@ -118,8 +69,8 @@ pub fn analyse_half_line(wavelet: u8, low: &mut [i32], high: &mut [i32])
     requires alike { length high.old ≡ length low.old }
     requires low_at_most_8190 { All (λ v. unsigned_abs v ≤ 2 * LARGEST_NARROW) low.old }
     requires high_at_most_8190 { All (λ v. unsigned_abs v ≤ 2 * LARGEST_NARROW) high.old }
-    ensures { (line : List ℤ) → AreHalves 0 low.old high.old line
-        → AreHalves 0 low.new high.new (analyse wavelet line) }
+    ensures { (line : List ℤ) → AreHalvesOfLine 0 low.old high.old line
+        → AreHalvesOfLine 0 low.new high.new (analyse wavelet line) }
 {
     let half = low.len();
     analyse_halves(wavelet, low, high, 1, half);

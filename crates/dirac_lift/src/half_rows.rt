@@ -5,11 +5,11 @@ ghost use Rattle.std.specs.Prelude.{slice_index_or, slice_set, unsigned_abs, IfO
 ghost use Rattle.std.specs.List.{All};
 ghost use Rattle.dirac_common.specs.Limits.{IsWavelet};
 ghost use Rattle.dirac_lift.specs.HalfRows.{analysed_rows};
-ghost use Rattle.dirac_lift.specs.Halves.{AreHalves, from_halves};
-ghost use Rattle.dirac_lift.specs.Level.{analysed, begun};
+ghost use Rattle.dirac_lift.specs.Halves.{AreHalvesOfLine, from_halves};
+ghost use Rattle.dirac_lift.specs.Level.{analysed, first_doubled};
 ghost use Rattle.dirac_lift.specs.Wavelets.{analyse};
 
-use crate::half_lines::{analyse_half_columns, analyse_half_line};
+use crate::half_lines::{analyse_half_line, analyse_halves};
 use crate::wavelets::halves;
 use dirac_common::{LARGEST_NARROW, LARGEST_TABLE_SIDE, Narrow, NoMemory};
 use std::alloc::Global;
@@ -51,7 +51,7 @@ fn begin_line(wavelet: u8, line: &[i32], low: &mut [i32], high: &mut [i32])
     requires line { length line.now ≡ 2 * length low.old }
     requires alike { length high.old ≡ length low.old }
     requires at_most_4095 { All (λ v. unsigned_abs v ≤ LARGEST_NARROW) line.now }
-    ensures { AreHalves 0 low.new high.new (begun wavelet line.now) }
+    ensures { AreHalvesOfLine 0 low.new high.new (first_doubled wavelet line.now) }
 {
     let doubles = halves(wavelet);
     for n in 0..low.len() {
@@ -65,7 +65,8 @@ fn analyse_row(wavelet: u8, line: &[i32], half: usize, row: &mut [i32])
     requires line { length line.now ≡ 2 * half }
     requires row { length row.old ≡ 2 * half }
     requires at_most_4095 { All (λ v. unsigned_abs v ≤ LARGEST_NARROW) line.now }
-    ensures { AreHalves 0 (take half row.new) (drop half row.new) (analyse wavelet (begun wavelet line.now)) }
+    ensures { AreHalvesOfLine 0 (take half row.new) (drop half row.new)
+        (analyse wavelet (first_doubled wavelet line.now)) }
 {
     let (low, high) = row.split_at_mut(half);
     begin_line(wavelet, line, low, high);
@@ -120,7 +121,7 @@ pub fn analyse_halves_level(
     let height = plane.height() as usize / 2;
     let mut evens = analyse_rows_from(alloc, wavelet, plane, 0)?;
     let mut odds = analyse_rows_from(alloc, wavelet, plane, 1)?;
-    analyse_half_columns(
+    analyse_halves(
         wavelet,
         evens.values_mut(),
         odds.values_mut(),

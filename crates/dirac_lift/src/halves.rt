@@ -1,5 +1,5 @@
 //! Lifting steps in 32 bits, over lines whose even and odd places stand in lists of their own.
-ghost use Rattle.std.specs.Prelude.{◌≡◌, ℕ, ℤ, pos, ◌+◌, ◌-◌, ◌*◌, ◌/◌, ◌^◌, ◌<◌, ◌≤◌, ◌+ℤ◌, ◌*ℤ◌, unsigned_abs};
+ghost use Rattle.std.specs.Prelude.{◌≡◌, ℤ, pos, ◌+◌, ◌-◌, ◌*◌, ◌^◌, ◌<◌, ◌≤◌, ◌+ℤ◌, ◌*ℤ◌, unsigned_abs};
 ghost use Rattle.std.specs.Prelude.{length, slice_index_or, slice_set};
 ghost use Rattle.std.specs.List.{All};
 ghost use Rattle.dirac_lift.specs.Changes.{with_taps};
@@ -7,7 +7,6 @@ ghost use Rattle.dirac_lift.specs.Halves.{HalfLifted, IsReadable, half_read};
 ghost use Rattle.dirac_lift.specs.Liftables.{CanLiftHalves, HalvesLifted};
 ghost use Rattle.dirac_lift.specs.Lifting.{moved, rounded, weighted};
 
-use crate::half_lanes::lift_eight;
 use crate::liftable::Liftable;
 use crate::step::{Change, Step};
 use crate::zeros::are_zeros;
@@ -153,7 +152,7 @@ fn lift_line(own: &mut [i32], other: &[i32], step: Step, taps: &[i32])
     }
 }
 
-/// One lifting step over one half of `width` lines, which reads the other half. Eight lines are lifted in lanes.
+/// One lifting step over one half of `width` lines, which reads the other half.
 #[inline(always)]
 fn lift_half(
     own: &mut &mut [i32],
@@ -173,8 +172,6 @@ fn lift_half(
 {
     if width == 1 {
         lift_line(own, other, step, taps);
-    } else if width == 8 {
-        lift_eight(own, other, half, step, taps);
     } else {
         lift_lines(own, other, width, half, step, taps);
     }

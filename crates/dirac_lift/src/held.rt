@@ -1,7 +1,7 @@
 //! Tables that are held in 32 bits where these are enough, else wide.
 ghost use Rattle.std.specs.Prelude.{◌≡◌, true, ◌≤◌, unsigned_abs, IfOk};
 ghost use Rattle.std.specs.List.{All};
-ghost use Rattle.dirac_lift.specs.Held.{held_table};
+ghost use Rattle.dirac_lift.specs.Held.{held_plane};
 
 use dirac_common::{LARGEST_NARROW, Narrow, NoMemory, Wide};
 use std::alloc::Global;
@@ -16,7 +16,7 @@ pub enum Held {
 impl Held {
     /// Its values, wide.
     pub fn into_wide(self, alloc: Global) -> Result<Wide, NoMemory>
-        ensures { IfOk result (λ t. t ≡ held_table self) }
+        ensures { IfOk result (λ t. t ≡ held_plane self) }
     {
         match self {
             Held::Wide(values) => Ok(values),

@@ -1,15 +1,15 @@
 //! Eight values of 32 bits at once.
-ghost use Rattle.std.specs.Prelude.{◌≡◌, ℕ, ℤ, pos, ◌+◌, ◌-◌, ◌*◌, ◌^◌, ◌<◌, ◌≤◌, ◌+ℤ◌, ◌*ℤ◌, unsigned_abs, length};
+ghost use Rattle.std.specs.Prelude.{◌≡◌, ℕ, ℤ, pos, ◌+◌, ◌-◌, ◌/◌, ◌^◌, ◌<◌, ◌≤◌, ◌+ℤ◌, unsigned_abs, length};
 ghost use Rattle.std.specs.Prelude.{slice_index_or, FitsSigned};
 ghost use Rattle.std.specs.Int.{int_shr, w32};
 ghost use Rattle.dirac_lift.specs.Lanes.{AreInTurn, AreLanes, IsEight, RunPut, lane};
-ghost use Rattle.dirac_lift.specs.Lifting.{moved};
+ghost use Rattle.dirac_lift.specs.Lifting.{rounded};
 
 use std::simd::prelude::*;
 
 /// One value in all lanes.
 #[inline(always)]
-pub fn lanes_of(value: i32) -> i32x8
+fn lanes_of(value: i32) -> i32x8
     ensures { AreLanes (λ j. value) result }
 {
     i32x8::splat(value)
@@ -35,20 +35,9 @@ pub fn put_lanes(values: &mut [i32], at: usize, lanes: i32x8)
     lanes.copy_to_slice(&mut values[at..]);
 }
 
-/// One more tap of eight weighted sums.
-#[inline(always)]
-pub fn multiply_add_lanes(sum: i32x8, tap: i32x8, value: i32x8) -> i32x8
-    requires lanes { IsEight sum × IsEight tap × IsEight value }
-    requires fits { (j : ℕ) → j < 8
-        → unsigned_abs (lane sum j) + unsigned_abs (lane tap j) * unsigned_abs (lane value j) ≤ 2 ^ 31 - 2 ^ 22 }
-    ensures { AreLanes (λ j. lane sum j +ℤ lane tap j *ℤ lane value j) result }
-{
-    sum.strict_add(tap.strict_mul(value))
-}
-
 /// Eight sums and what is added to them, shifted down by `bits`.
 #[inline(always)]
-pub fn shifted_lanes(sum: i32x8, half: i32x8, bits: i32x8) -> i32x8
+fn shifted_lanes(sum: i32x8, half: i32x8, bits: i32x8) -> i32x8
     requires lanes { IsEight sum × IsEight half × IsEight bits }
     requires fits { (j : ℕ) → j < 8 → unsigned_abs (lane sum j) + unsigned_abs (lane half j) < 2 ^ 31 }
     requires bits { (j : ℕ) → j < 8
@@ -58,18 +47,24 @@ pub fn shifted_lanes(sum: i32x8, half: i32x8, bits: i32x8) -> i32x8
     sum.strict_add(half) >> bits
 }
 
-/// Eight values after a change of each.
+/// Half of 2 to the power `shift`.
 #[inline(always)]
-pub fn moved_lanes(value: i32x8, change: i32x8, minus: bool) -> i32x8
-    requires lanes { IsEight value × IsEight change }
-    requires fits { (j : ℕ) → j < 8 → unsigned_abs (lane value j) + unsigned_abs (lane change j) < 2 ^ 31 }
-    ensures { AreLanes (λ j. moved minus (lane value j) (lane change j)) result }
+fn half_of(shift: u32) -> i32
+    requires { shift ≤ 12 }
+    ensures { result ≡ pos (2 ^ shift / 2) }
 {
-    if minus {
-        value.strict_sub(change)
-    } else {
-        value.strict_add(change)
-    }
+    (1i32 << shift) >> 1
+}
+
+/// Eight sums divided by 2 to the power `shift`, to the nearest.
+#[inline(always)]
+pub fn rounded_lanes(sum: i32x8, shift: u32) -> i32x8
+    requires shift { shift ≤ 12 }
+    requires lanes { IsEight sum }
+    requires sum { (j : ℕ) → j < 8 → unsigned_abs (lane sum j) ≤ 2 ^ 31 - 2 ^ 22 }
+    ensures { AreLanes (λ j. rounded shift (lane sum j)) result }
+{
+    shifted_lanes(sum, lanes_of(half_of(shift)), lanes_of(shift as i32))
 }
 
 /// The first four lanes of two vectors, in turn.

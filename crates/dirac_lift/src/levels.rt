@@ -1,8 +1,8 @@
-ghost use Rattle.std.specs.Prelude.{◌≡◌, ℕ, ◌+◌, ◌*◌, ◌%◌, ◌^◌, ◌<◌, ◌≤◌, ◌+ℤ◌, Bool, unsigned_abs, length, map};
+ghost use Rattle.std.specs.Prelude.{◌≡◌, ℕ, ◌+◌, ◌*◌, ◌%◌, ◌^◌, ◌≤◌, ◌+ℤ◌, unsigned_abs, length, map};
 ghost use Rattle.std.specs.List.{All};
 ghost use Rattle.dirac_common.specs.Limits.{IsWavelet};
 ghost use Rattle.dirac_bands.specs.DcSum.{by_rows};
-ghost use Rattle.dirac_lift.specs.Level.{analysed, begun, doubled, ended, halved, synthesised};
+ghost use Rattle.dirac_lift.specs.Level.{analysed, first_doubled, doubled, last_halved, halved, synthesised};
 ghost use Rattle.dirac_lift.specs.Places.{RowsBecome};
 ghost use Rattle.dirac_lift.specs.Wavelets.{analyse, synth};
 
@@ -68,7 +68,7 @@ fn double(values: &mut [i128])
 
 fn end_level(wavelet: u8, values: &mut [i128])
     requires { All (λ v. unsigned_abs v ≤ 2 ^ 120) values.old }
-    ensures { values.new ≡ ended wavelet values.old }
+    ensures { values.new ≡ last_halved wavelet values.old }
 {
     if halves(wavelet) {
         halve(values);
@@ -77,7 +77,7 @@ fn end_level(wavelet: u8, values: &mut [i128])
 
 fn begin_level(wavelet: u8, values: &mut [i128])
     requires { All (λ v. unsigned_abs v ≤ 2 ^ 120) values.old }
-    ensures { values.new ≡ begun wavelet values.old }
+    ensures { values.new ≡ first_doubled wavelet values.old }
 {
     if halves(wavelet) {
         double(values);

@@ -4,7 +4,6 @@
 
 mod columns;
 mod half_ends;
-mod half_lanes;
 mod half_levels;
 mod half_lines;
 mod half_rows;

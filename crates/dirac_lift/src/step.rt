@@ -1,8 +1,8 @@
-ghost use Rattle.std.specs.Prelude.{◌≡◌, ℕ, true, pos, ◌+◌, ◌-◌, ◌*◌, ◌/◌, ◌%◌, ◌^◌, ◌<◌, ◌≤◌, ◌+ℤ◌, ◌*ℤ◌, unsigned_abs};
-ghost use Rattle.std.specs.Prelude.{length, slice_index_or, slice_set};
+ghost use Rattle.std.specs.Prelude.{◌≡◌, true, pos, ◌+◌, ◌-◌, ◌*◌, ◌/◌, ◌%◌, ◌^◌, ◌<◌, ◌≤◌, ◌+ℤ◌, ◌*ℤ◌};
+ghost use Rattle.std.specs.Prelude.{length, slice_index_or, slice_set, unsigned_abs};
 ghost use Rattle.std.specs.List.{sum_by};
 ghost use Rattle.dirac_lift.specs.Changes.{is_minus, parity_of, with_taps};
-ghost use Rattle.dirac_lift.specs.Lifting.{PlacesWithin, lift, moved, new_at, other, own, pair_read, rounded};
+ghost use Rattle.dirac_lift.specs.Lifting.{PlacesWithin, lift, moved, new_at, own, rounded};
 ghost use Rattle.dirac_lift.specs.Lifting.{value_read, weighted};
 
 /// What a lifting step does: it changes the even or the odd places of a line, by taking or adding a rounded

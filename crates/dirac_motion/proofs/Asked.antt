@@ -17,7 +17,7 @@ use Rattle.dirac_sequence.specs.Written.{sequence_of}
 use Rattle.dirac_header.specs.Prediction.{grid_of}
 use Rattle.dirac_picture.specs.Grammar.{superblocks_over}
 use Rattle.dirac_content.specs.Content.{IsPicture}
-use Rattle.dirac_pyramid.specs.Pyramid.{level_of, pyramid_of}
+use Rattle.dirac_pyramid.specs.Pyramid.{pyramid_level, pyramid_of}
 use Rattle.dirac_search.specs.Fields.{IsSearch, field}
 use Rattle.dirac_search.proofs.Accepted.{search_accepted}
 use Rattle.dirac_search.proofs.Bounds.{all_short, sub_bound, sub_former}
@@ -38,7 +38,7 @@ pub levels_accepted : (s : Settings) → IsAccepted s → s.pyramid ≤ 4
 levels_accepted s a = (in_range s a).pyramid
 
 pub pyramid_length : (t : Table) (levels : ℕ) → length (pyramid_of t levels) ≡ levels + 1
-pyramid_length t levels = length-map-range_with_len (level_of t) 0 (levels + 1)
+pyramid_length t levels = length-map-range_with_len (pyramid_level t) 0 (levels + 1)
 
 -- at most 1,024 superblocks cover a picture
 pub few_over : (size separation : ℕ) → size ≤ 4096 → 8 ≤ separation → superblocks_over size separation ≤ 1024

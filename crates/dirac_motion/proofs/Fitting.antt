@@ -14,7 +14,7 @@ use Rattle.dirac_refs.specs.References.{listed}
 use Rattle.dirac_picture.specs.Grammar.{is_intra, is_listed, superblocks_over}
 use Rattle.dirac_content.specs.Content.{IsPicture, named}
 use Rattle.dirac_decide.specs.Deciding.{IsSearched, View, deciding}
-use Rattle.dirac_decide.specs.Modes.{refs_of}
+use Rattle.dirac_decide.specs.Modes.{count_of_references}
 use Rattle.dirac_decide.specs.Splits.{decided}
 use Rattle.dirac_decide.proofs.Accepted.{grid_within, some_over}
 use Rattle.dirac_decide.proofs.Lawful.{decided_lawful}
@@ -36,7 +36,7 @@ named_as refs None found = refl
 named_as refs (Some number) found = found
 
 -- as many views as references
-refs_as : (s : Settings) (p : Picture) (o : Option Picture) (refs : ℕ) → 1 ≤ refs → refs ≤ 2 → is_some o ≡ nat_le 2 refs → refs_of (option_map (view_in s p) o) ≡ refs
+refs_as : (s : Settings) (p : Picture) (o : Option Picture) (refs : ℕ) → 1 ≤ refs → refs ≤ 2 → is_some o ≡ nat_le 2 refs → count_of_references (option_map (view_in s p) o) ≡ refs
 refs_as s p None zero some most e = absurd (omega arith)
 refs_as s p None (suc zero) some most e = refl
 refs_as s p None (suc (suc zero)) some most e = absurd cc
@@ -69,7 +69,7 @@ second_searched s p (Some other) a is r e = subst (λ (v : Option View). ForSome
 
 -- the table from references that are there
 pub fits_from : (s : Settings) (code : ℕ) (p first : Picture) (second : Option Picture) → IsAccepted s → IsPicture (sequence_of s) p
-    → refs_of (option_map (view_in s p) second) ≡ references_of code → IsChosen s code (blocks_from s p first second)
+    → count_of_references (option_map (view_in s p) second) ≡ references_of code → IsChosen s code (blocks_from s p first second)
 unfolding decided
 fits_from s code p first second a is same =
     let d = deciding s p (view_in s p first) (option_map (view_in s p) second) in

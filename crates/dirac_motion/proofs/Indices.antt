@@ -9,7 +9,7 @@ use Rattle.dirac_upconvert.specs.SubSamples.{Up}
 use Rattle.dirac_search.specs.Candidates.{Vectors}
 use Rattle.dirac_search.specs.Fields.{after_finer, after_sub, best_of, stage_field}
 use Rattle.dirac_search.specs.Given.{Searched}
-use Rattle.dirac_search.specs.Kept.{kept, stage_keeps}
+use Rattle.dirac_search.specs.Kept.{candidates_kept, stage_keeps}
 use Rattle.dirac_search.specs.declared.stage.Stage.{Stage}
 use Rattle.dirac_search.specs.declared.stage.Stage.TheVariants as stage
 use Rattle.dirac_decide.specs.Deciding.{View, deciding}
@@ -18,7 +18,7 @@ use Rattle.dirac_plan.specs.declared.planned.Planned.{Planned}
 use Rattle.dirac_motion.specs.Chosen.{at_index, blocks_among, chosen, searched_in, view_in}
 
 stage_same : (g : Searched) (s : Settings) (k : ℕ) (st : Stage) (before : Option Vectors) → stage_field g (at_index s k) st before ≡ stage_field g s st before
-unfolding stage_field best_of kept stage_keeps
+unfolding stage_field best_of candidates_kept stage_keeps
 stage_same g s k st before = refl
 
 finer_same : (g : Searched) (s : Settings) (k n : ℕ) → after_finer g (at_index s k) n ≡ after_finer g s n

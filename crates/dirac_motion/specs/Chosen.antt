@@ -17,7 +17,7 @@ use Rattle.dirac_pyramid.specs.Pyramid.{pyramid_of}
 use Rattle.dirac_search.specs.Fields.{field}
 use Rattle.dirac_search.specs.Given.{Searched}
 use Rattle.dirac_decide.specs.Deciding.{View}
-use Rattle.dirac_decide.specs.Modes.{HasSamples}
+use Rattle.dirac_decide.specs.Modes.{HasDcSamples}
 use Rattle.dirac_decide.specs.Splits.{decided_by}
 use Rattle.dirac_plan.specs.declared.planned.Planned.{Planned}
 use Rattle.dirac_plan_laws.specs.Headers.{header_of}
@@ -77,7 +77,7 @@ pub record IsChosen (s : Settings) (code : ℕ) (b : BlockTable) : Type 0 where
   pub down : b.down ≡ superblocks_over (picture_height (sequence_of s)) (grid_of s.blocks).ybsep
   pub refs : b.refs ≡ references_of code
   pub table : IsBlockTable b
-  pub dcs : All HasSamples b.blocks
+  pub dcs : All HasDcSamples b.blocks
 
 -- the tables that are chosen fit their pictures
 abbrev pub ChosenTablesFit : Type 0

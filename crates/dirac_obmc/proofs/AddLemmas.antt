@@ -5,8 +5,9 @@ use Rattle.std.specs.List.{All}
 use Rattle.std.proofs.lemmas.Bool.{cases_eq, cases_lt}
 use Rattle.std.proofs.lemmas.Int.{ints}
 use Rattle.std.proofs.lemmas.List.{get_or-set_same, get_or-set_other, length-set, get_or_default}
-use Rattle.dirac_obmc.specs.Adding.{Adds, AddsPart, PutOver}
-use Rattle.dirac_obmc.specs.Compensation.{total}
+use Rattle.dirac_obmc.specs.declared.sums.Weighed.{Weighed}
+use Rattle.dirac_obmc.specs.Adding.{Adds, AddsPart, AreWeighed, PutOver}
+use Rattle.dirac_obmc.specs.Compensation.{signed_total}
 
 -- 0 more is the same
 pub add_zero : (x : ℤ) → x +ℤ pos 0 ≡ x
@@ -111,13 +112,13 @@ pub adds_none : (f : ℕ → ℤ) (n : ℕ) (xs : List ℤ) → ((x : ℕ) → x
 adds_none f n xs h = record { len = refl; each = λ x l. sym (add_zero (get_or xs x (pos 0))) ∙ ap (λ z. get_or xs x (pos 0) +ℤ z) (sym (h x l)) }
 
 -- one more term is added
-pub adds_more : (f : ℕ → ℕ → ℤ) (k m n : ℕ) (xs ys zs : List ℤ) → Adds (λ x. total (f x) k) n xs ys → Adds (λ x. f x k) n ys zs → m ≡ k + 1 → Adds (λ x. total (f x) m) n xs zs
+pub adds_more : (f : ℕ → ℕ → ℤ) (k m n : ℕ) (xs ys zs : List ℤ) → Adds (λ x. signed_total (f x) k) n xs ys → Adds (λ x. f x k) n ys zs → m ≡ k + 1 → Adds (λ x. signed_total (f x) m) n xs zs
 adds_more f k m n xs ys zs a b next = record {
   len = b.len ∙ a.len;
   each = λ x l.
       let last : suc k ≡ m = omega (arith, next) in
-      b.each x l ∙ ap (λ z. z +ℤ f x k) (a.each x l) ∙ regroup (get_or xs x (pos 0)) (total (f x) k) (f x k)
-      ∙ ap (λ i. get_or xs x (pos 0) +ℤ total (f x) i) last;
+      b.each x l ∙ ap (λ z. z +ℤ f x k) (a.each x l) ∙ regroup (get_or xs x (pos 0)) (signed_total (f x) k) (f x k)
+      ∙ ap (λ i. get_or xs x (pos 0) +ℤ signed_total (f x) i) last;
 } where
   regroup : (p q r : ℤ) → (p +ℤ q) +ℤ r ≡ p +ℤ (q +ℤ r)
   regroup p q r = omega (arith, ints)
@@ -134,8 +135,11 @@ adds_bounded f n a b c xs ys s len h g l k d inside =
     abs_within : (x y : ℤ) → unsigned_abs x ≤ a → unsigned_abs y ≤ b → unsigned_abs (x +ℤ y) ≤ c
     abs_within x y p q = omega (arith, ints)
 
-pub adds_all : (f : ℕ → ℕ → ℤ) (k m n : ℕ) (xs ys : List ℤ) → Adds (λ x. total (f x) k) n xs ys → k ≡ m → Adds (λ x. total (f x) m) n xs ys
-adds_all f k m n xs ys a e = subst (λ (i : ℕ). Adds (λ x. total (f x) i) n xs ys) e a
+pub adds_all : (f : ℕ → ℕ → ℤ) (k m n : ℕ) (xs ys : List ℤ) → Adds (λ x. signed_total (f x) k) n xs ys → k ≡ m → Adds (λ x. signed_total (f x) m) n xs ys
+adds_all f k m n xs ys a e = subst (λ (i : ℕ). Adds (λ x. signed_total (f x) i) n xs ys) e a
+
+pub adds_kept : (f : ℕ → ℕ → ℤ) (k m n : ℕ) (xs ys zs : List ℤ) → Adds (λ x. signed_total (f x) k) n xs ys → m ≡ k → zs ≡ ys → Adds (λ x. signed_total (f x) m) n xs zs
+adds_kept f k m n xs ys zs a e same = subst (λ (vs : List ℤ). Adds (λ x. signed_total (f x) m) n xs vs) (sym same) (adds_all f k m n xs ys a (sym e))
 
 -- sums that are 0
 pub zeros_small : (xs : List ℤ) → ((x : ℕ) → get_or xs x (pos 0) ≡ pos 0) → All (λ v. unsigned_abs v ≤ 0) xs
@@ -165,3 +169,13 @@ divided_more n m xs ys v d fits next e = record {
 -- a sum that isn't divided yet
 pub divided_next : (n b : ℕ) (xs ys : List ℤ) → Divided n xs ys → All (λ v. unsigned_abs v ≤ b) xs → n < length xs → unsigned_abs (get_or ys n (pos 0)) ≤ b
 divided_next n b xs ys d h inside = rw (d.rest n (omega arith)) (h n (pos 0) inside)
+
+-- the first of weighed values
+pub fewer_weighed : (w : Weighed) (n m : ℕ) → AreWeighed w n → m ≤ n → AreWeighed w m
+fewer_weighed w n m h few = record {
+  enough = omega (arith, h.enough, few);
+  values = λ k l. h.values k (omega (arith, l, few));
+  listed = omega (arith, h.listed, few);
+  weights = h.weights;
+  down = h.down;
+}

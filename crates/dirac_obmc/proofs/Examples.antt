@@ -6,7 +6,7 @@ use Rattle.dirac_common.specs.Table.{filled}
 use Rattle.dirac_header.specs.declared.prediction.Prediction.{Prediction}
 use Rattle.dirac_block_table.specs.declared.block.Block.{Block}
 use Rattle.dirac_block_table.specs.Tables.{grey}
-use Rattle.dirac_upconvert.specs.HalfSamples.{between, half}
+use Rattle.dirac_upconvert.specs.HalfSamples.{half_between, half}
 use Rattle.dirac_upconvert.specs.SubSamples.{part_sample}
 use Rattle.dirac_common.specs.declared.formats.Component.TheVariants as component
 use Rattle.dirac_obmc.specs.Compensation.{Compensation, moved_sample, position, predicted_plane, predicts, term}
@@ -59,15 +59,15 @@ whole = record { grid = record { xblen = 2; yblen = 1; xbsep = 2; ybsep = 1 }; p
 
 -- one reference counts by both weights: 10 times 5, and 2 for rounding, divided by 4
 from_one_reference : (predicted_plane (plane_of (record grey { ref1 = true }) whole (pos 10 ∷ negsuc 9 ∷ pos 3 ∷ []) (pos 0 ∷ pos 0 ∷ pos 0 ∷ []))).values ≡ pos 13 ∷ negsuc 11 ∷ pos 4 ∷ []
-unfolding between filled part_sample moved_sample predicts term share weight_at
+unfolding half_between filled part_sample moved_sample predicts term share weight_at
 from_one_reference = refl
 
 -- two references, the first a sample to the right
 from_two_references : (predicted_plane (plane_of (record grey { ref1 = true; ref2 = true; v1 = record { x = pos 1; y = pos 0 } }) whole (pos 10 ∷ negsuc 9 ∷ pos 3 ∷ []) (pos 4 ∷ pos 8 ∷ negsuc 3 ∷ []))).values
     ≡ negsuc 4 ∷ pos 6 ∷ pos 0 ∷ []
-unfolding between filled part_sample moved_sample predicts term share weight_at
+unfolding half_between filled part_sample moved_sample predicts term share weight_at
 from_two_references = refl
 
 dc_alone : (predicted_plane (plane_of (record grey { dc_y = negsuc 199 }) whole (pos 10 ∷ negsuc 9 ∷ []) (pos 4 ∷ pos 8 ∷ []))).values ≡ negsuc 199 ∷ negsuc 199 ∷ []
-unfolding between filled part_sample moved_sample predicts term share weight_at
+unfolding half_between filled part_sample moved_sample predicts term share weight_at
 dc_alone = refl

@@ -4,7 +4,7 @@ use Rattle.std.specs.Int.{int_shr}
 use Rattle.std.proofs.Math.IntN.{zero-*ℤ}
 use Rattle.std.proofs.Math.Nat.{add-mul}
 use Rattle.std.proofs.lemmas.Int.{ints}
-use Rattle.dirac_obmc.specs.Compensation.{Compensation, IsFlat, IsMotion, blended, blocks_across, blocks_down, predicted_at, predicts, term, total, weight_of}
+use Rattle.dirac_obmc.specs.Compensation.{Compensation, IsFlat, IsCompensation, blended, blocks_across, blocks_down, predicted_at, predicts, term, signed_total, weight_of}
 use Rattle.dirac_obmc.specs.Weights.{sum_below}
 use Rattle.dirac_obmc.proofs.SixtyFour.{sixty_four}
 
@@ -14,7 +14,7 @@ weigh_more a b (pos n) = omega (arith, ints, add-mul a b n)
 weigh_more a b (negsuc n) = omega (arith, ints, add-mul a b (suc n))
 
 -- a sum of weights times one value
-pub total_weighed : (f : ℕ → ℤ) (w : ℕ → ℕ) (v : ℤ) (n : ℕ) → ((i : ℕ) → i < n → f i ≡ pos (w i) *ℤ v) → total f n ≡ pos (sum_below w n) *ℤ v
+pub total_weighed : (f : ℕ → ℤ) (w : ℕ → ℕ) (v : ℤ) (n : ℕ) → ((i : ℕ) → i < n → f i ≡ pos (w i) *ℤ v) → signed_total f n ≡ pos (sum_below w n) *ℤ v
 total_weighed f w v zero h = sym (zero-*ℤ v)
 total_weighed f w v (suc n) h =
     ap (λ z. z +ℤ f n) (total_weighed f w v n (λ i l. h i (omega arith))) ∙ ap (λ z. pos (sum_below w n) *ℤ v +ℤ z) (h n (omega arith))
@@ -33,9 +33,9 @@ divided z v e = ap (λ a. int_shr (a +ℤ pos 32) 6) e ∙ whole (pos 64 *ℤ v 
   whole (pos n) b s = omega (arith, ints)
   whole (negsuc n) b s = omega (arith, ints)
 
-pub flat : (m : Compensation) (v : ℤ) → IsMotion m → IsFlat m v → (x y : ℕ) → x < m.width → y < m.height → predicted_at m x y ≡ v
+pub flat : (m : Compensation) (v : ℤ) → IsCompensation m → IsFlat m v → (x y : ℕ) → x < m.width → y < m.height → predicted_at m x y ≡ v
 flat m v h f x y right below =
     divided (blended m x y) v
-    (total_weighed (λ j. total (term m x y j) (blocks_across m)) (λ j. sum_below (weight_of m x y j) (blocks_across m)) v (blocks_down m)
+    (total_weighed (λ j. signed_total (term m x y j) (blocks_across m)) (λ j. sum_below (weight_of m x y j) (blocks_across m)) v (blocks_down m)
     (λ j k. total_weighed (term m x y j) (weight_of m x y j) v (blocks_across m) (λ i l. flat_term m v x y j i f l k))
     ∙ ap (λ w. pos w *ℤ v) (sixty_four m h x y right below))

@@ -1,5 +1,5 @@
 -- What the rules of block lengths and separations say of those of a plane.
-use Rattle.std.proofs.Common.{◌≡◌, ℕ, zero, suc, ◌-◌, ◌*◌, ◌/◌, ◌%◌, ◌≤◌, ◌⊎◌, Bool, ◌&&◌, arith, inl, inr, ap}
+use Rattle.std.proofs.Common.{◌≡◌, ℕ, zero, suc, ◌-◌, ◌*◌, ◌/◌, ◌%◌, ◌≤◌, ◌⊎◌, Bool, ◌&&◌, arith, inl, inr, refl, ap, sym, subst}
 use Rattle.std.specs.Prelude.{IsTrue}
 use Rattle.std.proofs.lemmas.Bool.{and_parts}
 use Rattle.dirac_common.specs.declared.formats.Chroma.{Chroma}
@@ -8,7 +8,9 @@ use Rattle.dirac_common.specs.Ratios.{ratio_across, ratio_down}
 use Rattle.dirac_header.specs.Prediction.{is_divisible, is_overlap}
 use Rattle.dirac_common.specs.declared.formats.Component.{Component}
 use Rattle.dirac_common.specs.declared.formats.Component.TheVariants as component
-use Rattle.dirac_obmc.specs.Compensation.{Compensation, IsMotion, ratio_of, x_length, x_separation, y_length, y_separation}
+use Rattle.dirac_block_table.specs.Tables.{IsBlockTable}
+use Rattle.dirac_obmc.specs.Compensation.{Compensation, IsCompensation, across_ratio, down_ratio, ratio_of, x_length, x_separation, y_length, y_separation}
+use Rattle.dirac_obmc.specs.Directions.{IsAcross, IsDown}
 use Rattle.dirac_obmc.specs.Weights.{IsOverlap}
 use Rattle.std.proofs.lemmas.Bool.Decides.{nat_tests}
 
@@ -108,18 +110,33 @@ rules_of a b c d h =
     let p = and_parts a b q.0 in
     record { first = p.0; second = p.1; third = q.1; fourth = r.1 }
 
-grid_rules : (m : Compensation) → IsMotion m → AreRules (is_overlap m.prediction.grid.xblen m.prediction.grid.xbsep) (is_divisible (ratio_across m.chroma) m.prediction.grid.xblen m.prediction.grid.xbsep)
+grid_rules : (m : Compensation) → IsCompensation m → AreRules (is_overlap m.prediction.grid.xblen m.prediction.grid.xbsep) (is_divisible (ratio_across m.chroma) m.prediction.grid.xblen m.prediction.grid.xbsep)
     (is_overlap m.prediction.grid.yblen m.prediction.grid.ybsep) (is_divisible (ratio_down m.chroma) m.prediction.grid.yblen m.prediction.grid.ybsep)
 grid_rules m h = rules_of _ _ _ _ h.grid
 
-pub overlap_across : (m : Compensation) → IsMotion m → IsOverlap (x_length m) (x_separation m)
+pub overlap_across : (m : Compensation) → IsCompensation m → IsOverlap (x_length m) (x_separation m)
 overlap_across m h =
     let g = grid_rules m h in
     of_part m.component (ratio_across m.chroma) m.prediction.grid.xblen m.prediction.grid.xbsep (some_across m.chroma) (few_across m.chroma)
     (divisible (ratio_across m.chroma) m.prediction.grid.xblen m.prediction.grid.xbsep g.first g.second)
 
-pub overlap_down : (m : Compensation) → IsMotion m → IsOverlap (y_length m) (y_separation m)
+pub overlap_down : (m : Compensation) → IsCompensation m → IsOverlap (y_length m) (y_separation m)
 overlap_down m h =
     let g = grid_rules m h in
     of_part m.component (ratio_down m.chroma) m.prediction.grid.yblen m.prediction.grid.ybsep (some_down m.chroma) (few_down m.chroma)
     (divisible (ratio_down m.chroma) m.prediction.grid.yblen m.prediction.grid.ybsep g.third g.fourth)
+
+-- the blocks of a plane along its directions
+pub across_is : (m : Compensation) (count ratio : ℕ) → IsCompensation m → count ≡ m.blocks.across → IsBlockTable m.blocks → ratio ≡ across_ratio m
+    → IsAcross m (record { count = 4 * count; length = m.prediction.grid.xblen / ratio; separation = m.prediction.grid.xbsep / ratio })
+across_is m count ratio h ec table er =
+    subst (λ (r : ℕ). IsAcross m (record { count = 4 * count; length = m.prediction.grid.xblen / r; separation = m.prediction.grid.xbsep / r })) (sym er)
+    (subst (λ (n : ℕ). IsAcross m (record { count = 4 * n; length = x_length m; separation = x_separation m })) (sym ec)
+    (record { count_is = refl; length_is = refl; separation_is = refl; overlap = overlap_across m h; covers = h.covers_across; few = omega (arith, table.size.most_across) }))
+
+pub down_is : (m : Compensation) (count ratio : ℕ) → IsCompensation m → count ≡ m.blocks.down → IsBlockTable m.blocks → ratio ≡ down_ratio m
+    → IsDown m (record { count = 4 * count; length = m.prediction.grid.yblen / ratio; separation = m.prediction.grid.ybsep / ratio })
+down_is m count ratio h ec table er =
+    subst (λ (r : ℕ). IsDown m (record { count = 4 * count; length = m.prediction.grid.yblen / r; separation = m.prediction.grid.ybsep / r })) (sym er)
+    (subst (λ (n : ℕ). IsDown m (record { count = 4 * n; length = y_length m; separation = y_separation m })) (sym ec)
+    (record { count_is = refl; length_is = refl; separation_is = refl; overlap = overlap_down m h; covers = h.covers_down; few = omega (arith, table.size.most_down) }))

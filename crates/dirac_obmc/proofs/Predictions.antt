@@ -9,8 +9,8 @@ use Rattle.std.proofs.lemmas.List.{length-replicate, take_at}
 use Rattle.std.proofs.lemmas.List.FromFn.{fill_by_all, get_or-map-range_with_len, length-map-range_with_len}
 use Rattle.std.proofs.lemmas.Nat.{mod_below, div_below}
 use Rattle.dirac_common.specs.Table.{Table, filled, table_of, with_values}
-use Rattle.dirac_obmc.specs.Compensation.{Compensation, IsMotion, blended, blocks_down, predicted_at, predicted_rows}
-use Rattle.dirac_obmc.specs.Directions.{IsSound}
+use Rattle.dirac_obmc.specs.Compensation.{Compensation, IsCompensation, blended, blocks_down, predicted_at, predicted_rows}
+use Rattle.dirac_obmc.specs.Directions.{IsSoundCompensation}
 use Rattle.dirac_obmc.proofs.Bounds.{rows_small}
 
 -- a sum of values times weights of 64 in all, divided by 64
@@ -26,7 +26,7 @@ divided_small z l = shifted (z +ℤ pos 32) (most z l) (least z l) where
   least : (y : ℤ) → unsigned_abs y ≤ 2 ^ 21 → pos 0 ≤ℤ ((y +ℤ pos 32) +ℤ pos (2 ^ 21))
   least y p = omega (arith, ints)
 
-predicted_small : (m : Compensation) (x y : ℕ) → IsMotion m → IsSound m → x < m.width → y < m.height → unsigned_abs (predicted_at m x y) ≤ 2 ^ 15
+predicted_small : (m : Compensation) (x y : ℕ) → IsCompensation m → IsSoundCompensation m → x < m.width → y < m.height → unsigned_abs (predicted_at m x y) ≤ 2 ^ 15
 predicted_small m x y h s right below = divided_small (blended m x y) (rows_small m x y (blocks_down m) h s right below (omega arith))
 
 -- a table whose values are told by column and row
@@ -37,7 +37,7 @@ filled_small f w h b some small k d inside =
     rw (get_or-map-range_with_len (λ p. f (p % w) (p / w)) 0 (w * h) k k d l (omega arith))
     (small (k % w) (k / w) (mod_below k w some) (div_below k w h some (omega (arith, l, mul_comm w h))))
 
-pub rows_are_small : (m : Compensation) (t : Table) (first end : ℕ) → IsMotion m → IsSound m → end ≤ m.height → t ≡ predicted_rows m first end → All (λ v. unsigned_abs v ≤ 2 ^ 15) t.values
+pub rows_are_small : (m : Compensation) (t : Table) (first end : ℕ) → IsCompensation m → IsSoundCompensation m → end ≤ m.height → t ≡ predicted_rows m first end → All (λ v. unsigned_abs v ≤ 2 ^ 15) t.values
 rows_are_small m t first end h s inside e =
     rw e (filled_small (λ x y. predicted_at m x (first + y)) m.width (end - first) (2 ^ 15) (omega (arith, h.some_across))
     (λ x y l k. predicted_small m x (first + y) h s l (omega arith)))

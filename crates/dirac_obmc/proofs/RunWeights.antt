@@ -7,7 +7,7 @@ use Rattle.std.proofs.Math.Nat.{suc-mul}
 use Rattle.dirac_obmc.specs.Adding.{PutWeights}
 use Rattle.dirac_obmc.specs.Directions.{IsWeights}
 use Rattle.dirac_obmc.specs.Strips.{AreRunParts, run_share}
-use Rattle.dirac_obmc.specs.Weights.{IsOverlap, margin, share, sum_below}
+use Rattle.dirac_obmc.specs.Weights.{IsOverlap, block_margin, share, sum_below}
 use Rattle.dirac_obmc.proofs.Eight.{eight}
 use Rattle.dirac_obmc.proofs.FewTerms.{sum_none, sum_one}
 use Rattle.dirac_obmc.proofs.Runs.{sum_split}
@@ -31,21 +31,21 @@ pub weights_all : (place : ℕ) (f : ℕ → ℕ) (n count : ℕ) (xs ys : List 
 weights_all place f n count xs ys h e = subst (λ (i : ℕ). PutWeights place i f xs ys) e h
 
 -- a weight in the list of all weights
-pub weight_listed : (count len separation block x p : ℕ) (ws : List ℕ) → IsWeights count len separation ws → block < count → block * separation ≤ x + margin len separation
-    → x + margin len separation < block * separation + len → p ≡ block * len + (x + margin len separation - block * separation) → get_or ws p 0 ≡ share block count len separation x
+pub weight_listed : (count len separation block x p : ℕ) (ws : List ℕ) → IsWeights count len separation ws → block < count → block * separation ≤ x + block_margin len separation
+    → x + block_margin len separation < block * separation + len → p ≡ block * len + (x + block_margin len separation - block * separation) → get_or ws p 0 ≡ share block count len separation x
 weight_listed count len separation block x p ws w inside from to e =
-    let t = x + margin len separation - block * separation in
+    let t = x + block_margin len separation - block * separation in
     ap (λ q. get_or ws q 0) e ∙ w.each block t inside (omega (arith, from, to)) ∙ sym (share_inside block count len separation x t (omega (arith, from)) (omega (arith, from, to)))
 
 -- the first block alone holds a place, or the last one does
-pub run_first : (count len separation i n x : ℕ) → 1 ≤ n → x + margin len separation < (i + 1) * separation → run_share count len separation i n x ≡ share i count len separation x
+pub run_first : (count len separation i n x : ℕ) → 1 ≤ n → x + block_margin len separation < (i + 1) * separation → run_share count len separation i n x ≡ share i count len separation x
 run_first count len separation i n x some l =
     let own : i + 0 ≡ i = omega arith in
     sum_one (λ k. share (i + k) count len separation x) n 0 (omega (arith, some))
     (λ k inside other. share_before (i + k) count len separation x (omega (arith, l, mul-le (i + 1) separation (i + k) separation (omega (arith, other)) (omega arith))))
     ∙ ap (λ b. share b count len separation x) own
 
-pub run_last : (count len separation i n x : ℕ) → IsOverlap len separation → 1 ≤ n → (i + n - 1) * separation + margin len separation ≤ x
+pub run_last : (count len separation i n x : ℕ) → IsOverlap len separation → 1 ≤ n → (i + n - 1) * separation + block_margin len separation ≤ x
     → run_share count len separation i n x ≡ share (i + n - 1) count len separation x
 run_last count len separation i n x o some l =
     let own : i + (n - 1) ≡ i + n - 1 = omega (arith, some) in
@@ -56,8 +56,8 @@ run_last count len separation i n x o some l =
     ∙ ap (λ b. share b count len separation x) own
 
 -- no other block holds it
-pub run_between : (count len separation i n x : ℕ) → IsOverlap len separation → 1 ≤ n → i + n ≤ count → x < count * separation → (i + 1) * separation ≤ x + margin len separation
-    → x < (i + n - 1) * separation + margin len separation → run_share count len separation i n x ≡ 8
+pub run_between : (count len separation i n x : ℕ) → IsOverlap len separation → 1 ≤ n → i + n ≤ count → x < count * separation → (i + 1) * separation ≤ x + block_margin len separation
+    → x < (i + n - 1) * separation + block_margin len separation → run_share count len separation i n x ≡ 8
 run_between count len separation i n x o some within inside from to =
     let s = sized len separation o in
     let f = λ (b : ℕ). share b count len separation x in
@@ -72,9 +72,9 @@ run_between count len separation i n x o some within inside from to =
     omega (arith, eight count len separation x o inside, sum_split f (i + n) (count - (i + n)), sum_split f i n, before, behind, ap (sum_below f) all)
 
 -- the columns of a run, in three parts
-pub run_parts : (len separation i n left right single last : ℕ) → IsOverlap len separation → left ≡ i * separation - margin len separation
-    → right + margin len separation ≤ (i + n - 1) * separation + len → left < right → single ≡ min ((i + 1) * separation - margin len separation) right
-    → last ≡ max (min ((i + n - 1) * separation + margin len separation) right) single → AreRunParts len separation i n left right single last
+pub run_parts : (len separation i n left right single last : ℕ) → IsOverlap len separation → left ≡ i * separation - block_margin len separation
+    → right + block_margin len separation ≤ (i + n - 1) * separation + len → left < right → single ≡ min ((i + 1) * separation - block_margin len separation) right
+    → last ≡ max (min ((i + n - 1) * separation + block_margin len separation) right) single → AreRunParts len separation i n left right single last
 run_parts len separation i n left right single last o el right_at ordered es et =
     let s = sized len separation o in
     let next : (i + 1) * separation ≡ i * separation + separation =

@@ -12,8 +12,8 @@ use Rattle.dirac_obmc.specs.declared.direction.Direction.{Direction}
 use Rattle.dirac_obmc.specs.declared.rows.Columns.{Columns}
 use Rattle.dirac_obmc.specs.declared.rows.Span.{Span}
 use Rattle.dirac_obmc.specs.Adding.{Adds}
-use Rattle.dirac_obmc.specs.Compensation.{Compensation, IsMotion, blocks_across, blocks_down, predicts, term, total, weight_of, x_length, x_separation, y_length, y_separation}
-use Rattle.dirac_obmc.specs.Directions.{IsColumns, IsDirection, IsSound}
+use Rattle.dirac_obmc.specs.Compensation.{Compensation, IsCompensation, blocks_across, blocks_down, predicts, term, signed_total, weight_of, x_length, x_separation, y_length, y_separation}
+use Rattle.dirac_obmc.specs.Directions.{IsColumns, IsDirection, IsSoundCompensation}
 use Rattle.dirac_obmc.specs.Strips.{AreRunWeights, IsRun, IsSpan, run_share, run_term}
 use Rattle.dirac_obmc.specs.Weights.{IsOverlap, share, sum_below}
 use Rattle.dirac_obmc.proofs.AddLemmas.{add_zero}
@@ -31,13 +31,13 @@ regroup : (p q r : ℤ) → (p +ℤ q) +ℤ r ≡ p +ℤ (q +ℤ r)
 regroup p q r = omega (arith, ints)
 
 -- a sum in two parts
-pub total_split : (f : ℕ → ℤ) (a n : ℕ) → total f (a + n) ≡ total f a +ℤ total (λ k. f (a + k)) n
+pub total_split : (f : ℕ → ℤ) (a n : ℕ) → signed_total f (a + n) ≡ signed_total f a +ℤ signed_total (λ k. f (a + k)) n
 total_split f a zero =
     let all : a + 0 ≡ a = omega arith in
-    ap (total f) all ∙ sym (add_zero (total f a))
+    ap (signed_total f) all ∙ sym (add_zero (signed_total f a))
 total_split f a (suc n) =
     let next : a + suc n ≡ suc (a + n) = omega arith in
-    ap (total f) next ∙ ap (λ z. z +ℤ f (a + n)) (total_split f a n) ∙ regroup (total f a) (total (λ k. f (a + k)) n) (f (a + n))
+    ap (signed_total f) next ∙ ap (λ z. z +ℤ f (a + n)) (total_split f a n) ∙ regroup (signed_total f a) (signed_total (λ k. f (a + k)) n) (f (a + n))
 
 pub sum_split : (f : ℕ → ℕ) (a n : ℕ) → sum_below f (a + n) ≡ sum_below f a + sum_below (λ k. f (a + k)) n
 sum_split f a zero =
@@ -48,13 +48,13 @@ sum_split f a (suc n) =
     omega (arith, ap (sum_below f) next, sum_split f a n)
 
 -- the next few terms are added
-pub adds_run : (f : ℕ → ℕ → ℤ) (a b c n : ℕ) (xs ys zs : List ℤ) → Adds (λ x. total (f x) a) n xs ys → Adds (λ x. total (λ k. f x (a + k)) b) n ys zs → c ≡ a + b → Adds (λ x. total (f x) c) n xs zs
-adds_run f a b c n xs ys zs p q e = record {
+pub adds_run : (f : ℕ → ℕ → ℤ) (a b c n : ℕ) (xs ys zs ws : List ℤ) → Adds (λ x. signed_total (f x) a) n xs ys → Adds (λ x. signed_total (λ k. f x (a + k)) b) n ys zs → c ≡ a + b → ws ≡ zs → Adds (λ x. signed_total (f x) c) n xs ws
+adds_run f a b c n xs ys zs ws p q e same = subst (λ (vs : List ℤ). Adds (λ x. signed_total (f x) c) n xs vs) (sym same) (record {
   len = q.len ∙ p.len;
   each = λ x l.
-      q.each x l ∙ ap (λ z. z +ℤ total (λ k. f x (a + k)) b) (p.each x l) ∙ regroup (get_or xs x (pos 0)) (total (f x) a) (total (λ k. f x (a + k)) b)
-      ∙ ap (λ z. get_or xs x (pos 0) +ℤ z) (sym (total_split (f x) a b)) ∙ ap (λ i. get_or xs x (pos 0) +ℤ total (f x) i) (sym e);
-}
+      q.each x l ∙ ap (λ z. z +ℤ signed_total (λ k. f x (a + k)) b) (p.each x l) ∙ regroup (get_or xs x (pos 0)) (signed_total (f x) a) (signed_total (λ k. f x (a + k)) b)
+      ∙ ap (λ z. get_or xs x (pos 0) +ℤ z) (sym (total_split (f x) a b)) ∙ ap (λ i. get_or xs x (pos 0) +ℤ signed_total (f x) i) (sym e);
+})
 
 -- what the blocks of a run add together
 pub run_is : (m : Compensation) (x y j i n : ℕ) → ((k : ℕ) → k < n → block_at m.blocks (i + k) j ≡ block_at m.blocks i j)
@@ -79,9 +79,9 @@ pub run_nothing_down : (m : Compensation) (x y j i n : ℕ) → share j (blocks_
 run_nothing_down m x y j i n e = total_nothing (λ k. term m x y j (i + k)) n (λ k l. nothing_down m x y j (i + k) e)
 
 -- how much it adds
-pub run_small : (m : Compensation) (x y j i n : ℕ) → IsMotion m → IsSound m → x < m.width → y < m.height → j < blocks_down m → i + n ≤ blocks_across m → unsigned_abs (run_term m x y j i n) ≤ 2 ^ 22
+pub run_small : (m : Compensation) (x y j i n : ℕ) → IsCompensation m → IsSoundCompensation m → x < m.width → y < m.height → j < blocks_down m → i + n ≤ blocks_across m → unsigned_abs (run_term m x y j i n) ≤ 2 ^ 22
 run_small m x y j i n h s right below k fits =
-    apart (total (term m x y j) i) (total (λ b. term m x y j (i + b)) n) (row_small m x y j i h s right below k (omega (arith, fits)))
+    apart (signed_total (term m x y j) i) (signed_total (λ b. term m x y j (i + b)) n) (row_small m x y j i h s right below k (omega (arith, fits)))
     (subst (λ (z : ℤ). unsigned_abs z ≤ 2 ^ 21) (total_split (term m x y j) i n) (row_small m x y j (i + n) h s right below k fits))
   where
     apart : (p q : ℤ) → unsigned_abs p ≤ 2 ^ 21 → unsigned_abs (p +ℤ q) ≤ 2 ^ 21 → unsigned_abs q ≤ 2 ^ 22

@@ -17,7 +17,7 @@ use Rattle.dirac_block_table.specs.declared.block.Block.{Block}
 use Rattle.dirac_upconvert.specs.HalfSamples.{IsSample}
 use Rattle.dirac_upconvert.specs.SubSamples.{IsWithin, Up}
 use Rattle.dirac_upconvert.proofs.SampleRows.{sub_sample_is}
-use Rattle.dirac_obmc.specs.Compensation.{Compensation, IsMotion, across_ratio, blended, blocks_across, blocks_down, dc_of, down_ratio, from_one, from_two, moved_sample, position, predicted_at, predicts, second_sample, term, total, weight_of}
+use Rattle.dirac_obmc.specs.Compensation.{Compensation, IsCompensation, across_ratio, blended, blocks_across, blocks_down, component_dc, down_ratio, from_one, from_two, moved_sample, position, predicted_at, predicts, second_sample, term, signed_total, weight_of}
 use Rattle.dirac_obmc.specs.OfSamples.{HasDefaultWeights, IsOfSamples, PlanesOfSamples, SamplesPredictSamples}
 use Rattle.dirac_obmc.specs.Weights.{sum_below}
 use Rattle.dirac_obmc.proofs.Choices.{by_first, by_second, by_two, by_value}
@@ -51,16 +51,16 @@ from_two_is p v w h a b =
     (half_sample ((v *ℤ pos 1 +ℤ w *ℤ pos 1) +ℤ pos 1)
     (omega (arith, ints, times_one v, times_one w, a.least, b.least)) (omega (arith, ints, times_one v, times_one w, a.most, b.most)))
 
-moved_is : (m : Compensation) → IsMotion m → (up : Up) → All IsSample up.table.values → (v : Vector) (x y : ℕ) → IsSample (moved_sample m up v x y)
+moved_is : (m : Compensation) → IsCompensation m → (up : Up) → All IsSample up.table.values → (v : Vector) (x y : ℕ) → IsSample (moved_sample m up v x y)
 unfolding moved_sample
 moved_is m h up all v x y = sub_sample_is up m.prediction.precision (position m.prediction.precision (across_ratio m) x v.x) (position m.prediction.precision (down_ratio m) y v.y) h.precision all
 
-second_is : (m : Compensation) → IsMotion m → (o : Option Up) → ForSome o (λ u. All IsSample u.table.values) → (v : Vector) (x y : ℕ) → IsSample (second_sample m o v x y)
+second_is : (m : Compensation) → IsCompensation m → (o : Option Up) → ForSome o (λ u. All IsSample u.table.values) → (v : Vector) (x y : ℕ) → IsSample (second_sample m o v x y)
 second_is m h None all v x y = record { least = omega (arith, ints); most = omega (arith, ints) }
 second_is m h (Some up) all v x y = moved_is m h up (all up refl) v x y
 
 -- what a block predicts
-value_is : (m : Compensation) → IsMotion m → IsOfSamples m → (b : Block) → IsSample (dc_of m.component b) → (x y : ℕ) → IsSample (predicts m b x y)
+value_is : (m : Compensation) → IsCompensation m → IsOfSamples m → (b : Block) → IsSample (component_dc m.component b) → (x y : ℕ) → IsSample (predicts m b x y)
 value_is m h o b dc x y =
     let first = moved_is m h m.up1 o.first b.v1 x y in
     let second = second_is m h m.up2 o.second b.v2 x y in
@@ -84,15 +84,15 @@ weighed w (negsuc n) h =
     let few : w * suc n ≤ w * 128 = mul-le w (suc n) w 128 (omega arith) (omega (arith, ints, h.least)) in
     record { least = omega (arith, ints, few); most = omega (arith, ints, few) }
 
-total_within : (f : ℕ → ℤ) (w : ℕ → ℕ) (n : ℕ) → ((i : ℕ) → i < n → IsWithin (w i) (f i)) → IsWithin (sum_below w n) (total f n)
+total_within : (f : ℕ → ℤ) (w : ℕ → ℕ) (n : ℕ) → ((i : ℕ) → i < n → IsWithin (w i) (f i)) → IsWithin (sum_below w n) (signed_total f n)
 total_within f w zero h = record { least = omega (arith, ints); most = omega (arith, ints) }
 total_within f w (suc n) h =
-    both (sum_below w n) (w n) (total f n) (f n) (total_within f w n (λ i l. h i (omega arith))) (h n (omega arith))
+    both (sum_below w n) (w n) (signed_total f n) (f n) (total_within f w n (λ i l. h i (omega arith))) (h n (omega arith))
   where
     both : (a b : ℕ) (s r : ℤ) → IsWithin a s → IsWithin b r → IsWithin (a + b) (s +ℤ r)
     both a b s r p q = record { least = omega (arith, ints, p.least, q.least); most = omega (arith, ints, p.most, q.most) }
 
-term_is : (m : Compensation) → IsMotion m → IsOfSamples m → (x y j i : ℕ) → j < blocks_down m → i < blocks_across m → IsWithin (weight_of m x y j i) (term m x y j i)
+term_is : (m : Compensation) → IsCompensation m → IsOfSamples m → (x y j i : ℕ) → j < blocks_down m → i < blocks_across m → IsWithin (weight_of m x y j i) (term m x y j i)
 unfolding term
 term_is m h o x y j i k l = weighed (weight_of m x y j i) (predicts m (block_at m.blocks i j) x y) (value_is m h o (block_at m.blocks i j) (o.dc i j l k) x y)
 
@@ -107,7 +107,7 @@ pub samples_predicted : SamplesPredictSamples
 samples_predicted m h o x y right below =
     divided (blended m x y)
     (subst (λ (n : ℕ). IsWithin n (blended m x y)) (sixty_four m h x y right below)
-    (total_within (λ j. total (term m x y j) (blocks_across m)) (λ j. sum_below (weight_of m x y j) (blocks_across m)) (blocks_down m)
+    (total_within (λ j. signed_total (term m x y j) (blocks_across m)) (λ j. sum_below (weight_of m x y j) (blocks_across m)) (blocks_down m)
     (λ j k. total_within (term m x y j) (weight_of m x y j) (blocks_across m) (λ i l. term_is m h o x y j i k l))))
 
 -- what holds at each place of a table that is told

@@ -14,10 +14,11 @@ use Rattle.dirac_block_table.specs.Tables.{block_at}
 use Rattle.dirac_obmc.specs.declared.rows.Lines.{Lines}
 use Rattle.dirac_obmc.specs.declared.rows.Part.{Part}
 use Rattle.dirac_obmc.specs.declared.rows.Span.{Span}
-use Rattle.dirac_obmc.specs.Adding.{Adds, AddsPart}
-use Rattle.dirac_obmc.specs.Compensation.{Compensation, IsMotion, blocks_across, blocks_down, predicts, x_length, x_separation, y_length, y_separation}
-use Rattle.dirac_obmc.specs.Directions.{IsSound}
-use Rattle.dirac_obmc.specs.Strips.{IsLines, IsPart, IsRun, IsSpan, run_added_at, run_share, run_term}
+use Rattle.dirac_obmc.specs.declared.sums.Weighed.{Weighed}
+use Rattle.dirac_obmc.specs.Adding.{Adds, AddsPart, AreWeighed, weighed_at}
+use Rattle.dirac_obmc.specs.Compensation.{Compensation, IsCompensation, blocks_across, blocks_down, predicts, x_length, x_separation, y_length, y_separation}
+use Rattle.dirac_obmc.specs.Directions.{IsSoundCompensation}
+use Rattle.dirac_obmc.specs.Strips.{IsLines, IsPartOfRun, IsRun, IsSpan, run_added_at, run_share, run_term}
 use Rattle.dirac_obmc.specs.Weights.{share}
 use Rattle.dirac_obmc.proofs.AddLemmas.{add_zero, adds_none}
 use Rattle.dirac_obmc.proofs.Bounds.{block_is, predicts_small}
@@ -88,10 +89,10 @@ below_all f n m xs ys s none = record {
 }
 
 -- a place of the list is one of a column and a row
-pub column_inside : (m : Compensation) (p : ℕ) → IsMotion m → p % m.width < m.width
+pub column_inside : (m : Compensation) (p : ℕ) → IsCompensation m → p % m.width < m.width
 column_inside m p h = mod_below p m.width (omega (arith, h.some_across))
 
-pub row_inside : (m : Compensation) (first end p : ℕ) → IsMotion m → p < m.width * (end - first) → p / m.width < end - first
+pub row_inside : (m : Compensation) (first end p : ℕ) → IsCompensation m → p < m.width * (end - first) → p / m.width < end - first
 row_inside m first end p h l = div_below p m.width (end - first) (omega (arith, h.some_across)) (omega (arith, l, mul_comm m.width (end - first)))
 
 row_behind : (w e p : ℕ) → 0 < w → e * w ≤ p → e ≤ p / w
@@ -105,13 +106,13 @@ run_row m first r x j i n l =
     ap (λ a. run_term m a (first + (r * m.width + x) / m.width) j i n) (mod-mul-add r m.width x l) ∙ ap (λ b. run_term m x (first + b) j i n) (div-mul-add r m.width x l)
 
 -- above the rows of a run and below them nothing is added
-pub part_above : (m : Compensation) (first end : ℕ) (part : Part) (p : ℕ) → IsMotion m → IsPart m first end part → p < (part.down.start - first) * m.width
+pub part_above : (m : Compensation) (first end : ℕ) (part : Part) (p : ℕ) → IsCompensation m → IsPartOfRun m first end part → p < (part.down.start - first) * m.width
     → run_added_at m first part.run.j part.run.i part.run.count p ≡ pos 0
 part_above m first end part p h s l =
     let row = div_below p m.width (part.down.start - first) (omega (arith, h.some_across)) l in
     run_nothing_down m (p % m.width) (first + p / m.width) part.run.j part.run.i part.run.count (s.rows.before (first + p / m.width) (omega arith) (omega (arith, row)))
 
-pub part_below : (m : Compensation) (first end : ℕ) (part : Part) (p : ℕ) → IsMotion m → IsPart m first end part → (part.down.end - first) * m.width ≤ p → p < m.width * (end - first)
+pub part_below : (m : Compensation) (first end : ℕ) (part : Part) (p : ℕ) → IsCompensation m → IsPartOfRun m first end part → (part.down.end - first) * m.width ≤ p → p < m.width * (end - first)
     → run_added_at m first part.run.j part.run.i part.run.count p ≡ pos 0
 part_below m first end part p h s past l =
     let row = row_behind m.width (part.down.end - first) p (omega (arith, h.some_across)) past in
@@ -122,12 +123,20 @@ part_below m first end part p h s past l =
 weighed_same : (a b c d : ℕ) (v w : ℤ) → a ≡ b → c ≡ d → v ≡ w → pos (a * c) *ℤ v ≡ pos (b * d) *ℤ w
 weighed_same a b c d v w ea ec ev = ap (λ s. pos (s * c) *ℤ v) ea ∙ ap (λ s. pos (b * s) *ℤ v) ec ∙ ap (λ z. pos (b * d) *ℤ z) ev
 
-pub part_row : (m : Compensation) (ls : Lines) (part : Part) (y : ℕ) (xs ys zs : List ℤ) → IsMotion m → IsLines m ls → IsPart m ls.first ls.end part → part.down.start ≤ y → y < part.down.end
+-- a row of its values, and their weights
+abbrev pub weighed_in : Lines → Part → ℕ → Weighed
+weighed_in ls part y = record {
+  values = part.values;
+  at = (y - part.down.start) * part.width;
+  weights = part.weights;
+  down = get_or ls.weights.now (part.down.weights + (y - part.down.start)) 0;
+}
+
+pub part_row : (m : Compensation) (ls : Lines) (part : Part) (y : ℕ) (xs ys zs : List ℤ) → IsCompensation m → IsLines m ls → IsPartOfRun m ls.first ls.end part → part.down.start ≤ y → y < part.down.end
     → AddsBelow (run_added_at m ls.first part.run.j part.run.i part.run.count) ((y - ls.first) * m.width) xs ys
-    → AddsPart ((y - ls.first) * m.width + part.left)
-    (λ k. pos (get_or part.weights.now (0 + k) 0 * get_or ls.weights.now (part.down.weights + (y - part.down.start)) 0) *ℤ get_or part.values.now ((y - part.down.start) * part.width + k) (pos 0))
-    (part.right - part.left) ys zs
+    → AddsPart ((y - ls.first) * m.width + part.left) (weighed_at (weighed_in ls part y)) (part.right - part.left) ys zs
     → AddsBelow (run_added_at m ls.first part.run.j part.run.i part.run.count) ((y + 1 - ls.first) * m.width) xs zs
+unfolding weighed_at
 part_row m ls part y xs ys zs h hs s from to a b =
     let first = ls.first in
     let i = part.run.i in
@@ -139,10 +148,8 @@ part_row m ls part y xs ys zs h hs s from to a b =
     s.rows.weight ls.weights.now (y - part.down.start) hs.weights (omega (arith, from, to)) ∙ ap (share j (blocks_down m) (y_length m) (y_separation m)) (omega (arith, from)) in
     let told : (x : ℕ) → x < m.width → run_added_at m first j i n ((y - ls.first) * m.width + x) ≡ run_term m x y j i n =
     λ x l. run_row m first (y - ls.first) x j i n l ∙ ap (λ b. run_term m x b j i n) row in
-    let weight : (k : ℕ) → k < part.right - part.left → get_or part.weights.now (0 + k) 0 ≡ run_share (blocks_across m) (x_length m) (x_separation m) i n (part.left + k) =
-    λ k l. ap (λ p. get_or part.weights.now p 0) (omega arith) ∙ s.columns.weight k l in
     below_row (run_added_at m first j i n) _ m.width (y - ls.first) part.left (part.right - part.left) _ xs ys zs a b (omega (arith, s.some_columns, s.columns.to)) (omega (arith, next, suc-mul (y - ls.first) m.width))
-    (λ k l. weighed_same _ _ _ _ _ _ (weight k l) down
+    (λ k l. weighed_same _ _ _ _ _ _ (s.columns.weight k l) down
     (s.values (y - part.down.start) k (omega (arith, from, to)) (omega (arith, l, s.fits)) ∙ ap (predicts m (block_at m.blocks i j) (part.left + k)) (omega (arith, from)))
     ∙ sym (run_is m (part.left + k) y j i n s.run.same)
     ∙ sym (told (part.left + k) (omega (arith, l, s.columns.to))))
@@ -150,34 +157,41 @@ part_row m ls part y xs ys zs h hs s from to a b =
     (λ x l w. told x w ∙ run_nothing_across m x y j i n s.run.same (s.columns.behind x (omega (arith, l, s.some_columns)) w))
 
 -- a weight 0 adds nothing
-pub weighed_none : (w d : ℕ) (v : ℤ) → w ≡ 0 → pos (w * d) *ℤ v ≡ pos 0
-weighed_none w d v e = ap (λ s. pos (s * d) *ℤ v) e ∙ ap (λ s. pos s *ℤ v) (zero-mul d) ∙ zero-*ℤ v
+pub weighed_none : (w : Weighed) (k : ℕ) → get_or w.weights.now k 0 ≡ 0 → weighed_at w k ≡ pos 0
+unfolding weighed_at
+weighed_none w k e =
+    let v = get_or w.values.now (w.at + k) (pos 0) in
+    ap (λ s. pos (s * w.down) *ℤ v) e ∙ ap (λ s. pos s *ℤ v) (zero-mul w.down) ∙ zero-*ℤ v
 
 -- how much it adds
-pub part_small : (m : Compensation) (ls : Lines) (part : Part) (p : ℕ) → IsMotion m → IsSound m → IsLines m ls → IsPart m ls.first ls.end part → p < m.width * (ls.end - ls.first)
+pub part_small : (m : Compensation) (ls : Lines) (part : Part) (p : ℕ) → IsCompensation m → IsSoundCompensation m → IsLines m ls → IsPartOfRun m ls.first ls.end part → p < m.width * (ls.end - ls.first)
     → unsigned_abs (run_added_at m ls.first part.run.j part.run.i part.run.count p) ≤ 2 ^ 22
 part_small m ls part p h sound hs s l =
     run_small m (p % m.width) (ls.first + p / m.width) part.run.j part.run.i part.run.count h sound (column_inside m p h) (omega (arith, row_inside m ls.first ls.end p h l, hs.inside)) s.run.down s.run.across
 
 -- where its values, its weights and its sums stand
-pub part_fits : (m : Compensation) (first end : ℕ) (part : Part) (y : ℕ) → IsPart m first end part → part.down.start ≤ y → y < part.down.end
+pub part_fits : (m : Compensation) (first end : ℕ) (part : Part) (y : ℕ) → IsPartOfRun m first end part → part.down.start ≤ y → y < part.down.end
     → ((y - first) * m.width + part.left) + (part.right - part.left) ≤ m.width * (end - first)
 part_fits m first end part y s from to =
     omega (arith, row_fits (y - first) m.width (end - first) m.width (omega (arith, from, to, s.rows.from, s.rows.to)) (omega arith), s.columns.to, s.some_columns, mul_comm m.width (end - first))
 
-pub part_enough : (m : Compensation) (first end : ℕ) (part : Part) (y count : ℕ) → IsPart m first end part → part.down.start ≤ y → y < part.down.end → count ≤ part.width
-    → (y - part.down.start) * part.width + count ≤ length part.values.now
-part_enough m first end part y count s from to few =
-    omega (arith, row_fits (y - part.down.start) part.width (part.down.end - part.down.start) part.width (omega (arith, from, to)) (omega arith), s.whole, few)
+pub part_low : (m : Compensation) (ls : Lines) (part : Part) (y : ℕ) → IsCompensation m → IsLines m ls → IsPartOfRun m ls.first ls.end part → part.down.start ≤ y → y < part.down.end → (y - ls.first) * m.width + part.left ≤ 16777216
+part_low m ls part y h hs s from to =
+    omega (arith, part_fits m ls.first ls.end part y s from to, mul-le m.width (ls.end - ls.first) 4096 4096 h.most_across (omega (arith, hs.inside, h.most_down)))
 
-pub part_values : (m : Compensation) (first end : ℕ) (part : Part) (y k : ℕ) → IsMotion m → IsSound m → IsPart m first end part → part.down.start ≤ y → y < part.down.end → k < part.width
-    → unsigned_abs (get_or part.values.now ((y - part.down.start) * part.width + k) (pos 0)) ≤ 2 ^ 15
-part_values m first end part y k h sound s from to l =
-    rw (s.values (y - part.down.start) k (omega (arith, from, to)) l)
-    (predicts_small m _ _ _ _ h sound (block_is m part.run.i part.run.j sound (omega (arith, s.run.some, s.run.across)) s.run.down))
+pub part_weighed : (m : Compensation) (ls : Lines) (part : Part) (y count : ℕ) → IsCompensation m → IsSoundCompensation m → IsLines m ls → IsPartOfRun m ls.first ls.end part → part.down.start ≤ y → y < part.down.end → count ≤ part.width
+    → AreWeighed (weighed_in ls part y) count
+part_weighed m ls part y count h sound hs s from to few = record {
+  enough = omega (arith, row_fits (y - part.down.start) part.width (part.down.end - part.down.start) part.width (omega (arith, from, to)) (omega arith), s.whole, few);
+  values = λ k l. rw (s.values (y - part.down.start) k (omega (arith, from, to)) (omega (arith, l, few)))
+      (predicts_small m _ _ _ _ h sound (block_is m part.run.i part.run.j sound (omega (arith, s.run.some, s.run.across)) s.run.down));
+  listed = omega (arith, s.listed, few);
+  weights = s.columns.small;
+  down = hs.weights.small (part.down.weights + (y - part.down.start)) 0 (omega (arith, hs.weights.whole, s.rows.listed (omega (arith, from, to)), from, to));
+}
 
 -- a run that holds no column or no row adds nothing
-pub no_columns : (m : Compensation) (first end i j n left right : ℕ) (xs : List ℤ) → IsMotion m → IsRun m i n j → right ≤ left
+pub no_columns : (m : Compensation) (first end i j n left right : ℕ) (xs : List ℤ) → IsCompensation m → IsRun m i n j → right ≤ left
     → ((x : ℕ) → x < left → run_share (blocks_across m) (x_length m) (x_separation m) i n x ≡ 0)
     → ((x : ℕ) → right ≤ x → x < m.width → run_share (blocks_across m) (x_length m) (x_separation m) i n x ≡ 0) → Adds (run_added_at m first j i n) (m.width * (end - first)) xs xs
 no_columns m first end i j n left right xs h r none before behind =
@@ -188,7 +202,7 @@ no_columns m first end i j n left right xs h r none before behind =
       | inr past ↦ behind (p % m.width) (omega (arith, past, none)) (column_inside m p h)
     ]))
 
-pub no_rows : (m : Compensation) (first end i j n : ℕ) (s : Span) (xs : List ℤ) → IsMotion m → IsSpan j (blocks_down m) (y_length m) (y_separation m) first end s → s.end ≤ s.start
+pub no_rows : (m : Compensation) (first end i j n : ℕ) (s : Span) (xs : List ℤ) → IsCompensation m → IsSpan j (blocks_down m) (y_length m) (y_separation m) first end s → s.end ≤ s.start
     → Adds (run_added_at m first j i n) (m.width * (end - first)) xs xs
 no_rows m first end i j n s xs h a none =
     adds_none (run_added_at m first j i n) (m.width * (end - first)) xs

@@ -4,7 +4,7 @@ use Rattle.std.proofs.Math.Nat.{mul-add}
 use Rattle.std.proofs.lemmas.Bool.{cases_eq}
 use Rattle.std.proofs.lemmas.Int.{ints, unsigned_abs-mul}
 use Rattle.std.proofs.lemmas.Nat.{mul-le}
-use Rattle.dirac_obmc.specs.Compensation.{total}
+use Rattle.dirac_obmc.specs.Compensation.{signed_total}
 use Rattle.dirac_obmc.specs.Weights.{sum_below}
 
 -- a value times its weight
@@ -13,13 +13,13 @@ weighed_small w v few small =
     omega (arith, unsigned_abs-mul (pos w) v, mul-le w (unsigned_abs v) 64 32768 few (omega arith))
 
 -- terms that are within weights times b sum to within the weights' sum times b
-pub abs_total : (f : ℕ → ℤ) (w : ℕ → ℕ) (b n : ℕ) → ((i : ℕ) → i < n → unsigned_abs (f i) ≤ b * w i) → unsigned_abs (total f n) ≤ b * sum_below w n
+pub abs_total : (f : ℕ → ℤ) (w : ℕ → ℕ) (b n : ℕ) → ((i : ℕ) → i < n → unsigned_abs (f i) ≤ b * w i) → unsigned_abs (signed_total f n) ≤ b * sum_below w n
 abs_total f w b zero h = omega arith
 abs_total f w b (suc n) h =
-    let before : unsigned_abs (total f n) ≤ b * sum_below w n = abs_total f w b n (λ i l. h i (omega arith)) in
+    let before : unsigned_abs (signed_total f n) ≤ b * sum_below w n = abs_total f w b n (λ i l. h i (omega arith)) in
     let here : unsigned_abs (f n) ≤ b * w n = h n (omega arith) in
     let both : b * (sum_below w n + w n) ≡ b * sum_below w n + b * w n = mul-add b (sum_below w n) (w n) in
-    let parts : unsigned_abs (total f n +ℤ f n) ≤ unsigned_abs (total f n) + unsigned_abs (f n) = abs_sum (total f n) (f n) in
+    let parts : unsigned_abs (signed_total f n +ℤ f n) ≤ unsigned_abs (signed_total f n) + unsigned_abs (f n) = abs_sum (signed_total f n) (f n) in
     omega (arith, before, here, both, parts)
   where
     abs_sum : (x y : ℤ) → unsigned_abs (x +ℤ y) ≤ unsigned_abs x + unsigned_abs y
@@ -37,20 +37,20 @@ sum_grows w k (suc n) l = elim (cases_eq k (suc n)) [
 ]
 
 -- terms 0 at the front and at the end
-pub total_nothing : (f : ℕ → ℤ) (n : ℕ) → ((i : ℕ) → i < n → f i ≡ pos 0) → total f n ≡ pos 0
+pub total_nothing : (f : ℕ → ℤ) (n : ℕ) → ((i : ℕ) → i < n → f i ≡ pos 0) → signed_total f n ≡ pos 0
 total_nothing f zero h = refl
 total_nothing f (suc n) h =
     rw (total_nothing f n (λ i l. h i (omega arith)), h n (omega arith)) refl
 
-pub total_stays : (f : ℕ → ℤ) (k n : ℕ) → k ≤ n → ((i : ℕ) → k ≤ i → i < n → f i ≡ pos 0) → total f n ≡ total f k
+pub total_stays : (f : ℕ → ℤ) (k n : ℕ) → k ≤ n → ((i : ℕ) → k ≤ i → i < n → f i ≡ pos 0) → signed_total f n ≡ signed_total f k
 total_stays f k zero l h = elim (cases_eq k 0) [
-  | inl e ↦ ap (total f) (sym e)
+  | inl e ↦ ap (signed_total f) (sym e)
   | inr more ↦ absurd (omega arith)
 ]
 total_stays f k (suc n) l h = elim (cases_eq k (suc n)) [
-  | inl e ↦ ap (total f) (sym e)
+  | inl e ↦ ap (signed_total f) (sym e)
   | inr less ↦
-      rw (h n (omega arith) (omega arith), total_stays f k n (omega arith) (λ i a b. h i a (omega arith))) (add_zero (total f k))
+      rw (h n (omega arith) (omega arith), total_stays f k n (omega arith) (λ i a b. h i a (omega arith))) (add_zero (signed_total f k))
 ] where
   add_zero : (x : ℤ) → x +ℤ pos 0 ≡ x
   add_zero x = omega (arith, ints)

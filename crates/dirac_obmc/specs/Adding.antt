@@ -1,5 +1,8 @@
 -- Rows of sums to which values are added.
-use Rattle.std.specs.Prelude.{◌≡◌, ℕ, ℤ, pos, ◌+◌, ◌<◌, ◌≤◌, ◌+ℤ◌, List, length, slice_index, slice_index_or}
+use Rattle.std.specs.Prelude.{◌≡◌, ℕ, ℤ, pos, ◌+◌, ◌*◌, ◌^◌, ◌<◌, ◌≤◌, ◌+ℤ◌, ◌*ℤ◌, unsigned_abs, List, length}
+use Rattle.std.specs.Prelude.{slice_index, slice_index_or}
+use Rattle.std.specs.List.{All}
+use Rattle.dirac_obmc.specs.declared.sums.Weighed.{Weighed}
 
 -- the first n sums have grown by f
 pub record Adds (f : ℕ → ℤ) (n : ℕ) (old new : List ℤ) : Type 0 where
@@ -25,3 +28,15 @@ pub record PutWeights (place n : ℕ) (f : ℕ → ℕ) (old new : List ℕ) : T
   pub before : (x : ℕ) → x < place → slice_index new x ≡ slice_index old x
   pub done : (k : ℕ) → k < n → slice_index new (place + k) ≡ f k
   pub rest : (x : ℕ) → place + n ≤ x → slice_index new x ≡ slice_index old x
+
+-- n values of a row, and their weights
+pub record AreWeighed (w : Weighed) (n : ℕ) : Type 0 where
+  pub enough : w.at + n ≤ length w.values.now
+  pub values : (k : ℕ) → k < n → unsigned_abs (slice_index_or w.values.now (w.at + k) (pos 0)) ≤ 2 ^ 15
+  pub listed : n ≤ length w.weights.now
+  pub weights : All (λ w. w ≤ 8) w.weights.now
+  pub down : w.down ≤ 8
+
+-- value k times its weights across and down
+unfoldable pub weighed_at : Weighed → ℕ → ℤ
+weighed_at w k = pos (slice_index w.weights.now k * w.down) *ℤ slice_index_or w.values.now (w.at + k) (pos 0)

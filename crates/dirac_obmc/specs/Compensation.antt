@@ -88,10 +88,10 @@ abbrev pub from_two : Prediction → ℤ → ℤ → ℤ
 from_two p v1 v2 = rounded p.weight_bits (v1 *ℤ p.weight1 +ℤ v2 *ℤ p.weight2)
 
 -- the DC value of a block for this part
-abbrev pub dc_of : Component → Block → ℤ
-dc_of component.Y b = b.dc_y
-dc_of component.U b = b.dc_u
-dc_of component.V b = b.dc_v
+abbrev pub component_dc : Component → Block → ℤ
+component_dc component.Y b = b.dc_y
+component_dc component.U b = b.dc_u
+component_dc component.V b = b.dc_v
 
 -- what a block predicts at column x of row y
 unfoldable pub predicts : Compensation → Block → ℕ → ℕ → ℤ
@@ -100,12 +100,12 @@ predicts m b x y =
     then (if b.ref2
     then from_two m.prediction (moved_sample m m.up1 b.v1 x y) (second_sample m m.up2 b.v2 x y)
     else from_one m.prediction (moved_sample m m.up1 b.v1 x y))
-    else (if b.ref2 then from_one m.prediction (second_sample m m.up2 b.v2 x y) else dc_of m.component b)
+    else (if b.ref2 then from_one m.prediction (second_sample m m.up2 b.v2 x y) else component_dc m.component b)
 
 -- the sum of the first n values of f
-abbrev pub total : (ℕ → ℤ) → ℕ → ℤ
-total f zero = pos 0
-total f (suc n) = total f n +ℤ f n
+abbrev pub signed_total : (ℕ → ℤ) → ℕ → ℤ
+signed_total f zero = pos 0
+signed_total f (suc n) = signed_total f n +ℤ f n
 
 -- the weight of block i of row j at column x of row y: the product of its weights across and down
 abbrev pub weight_of : Compensation → ℕ → ℕ → ℕ → ℕ → ℕ
@@ -118,7 +118,7 @@ term m x y j i = pos (weight_of m x y j i) *ℤ predicts m (block_at m.blocks i 
 
 -- the sum over all blocks
 abbrev pub blended : Compensation → ℕ → ℕ → ℤ
-blended m x y = total (λ j. total (term m x y j) (blocks_across m)) (blocks_down m)
+blended m x y = signed_total (λ j. signed_total (term m x y j) (blocks_across m)) (blocks_down m)
 
 -- the prediction of the sample in column x of row y
 abbrev pub predicted_at : Compensation → ℕ → ℕ → ℤ
@@ -145,7 +145,7 @@ pub record IsPredictable (m : Compensation) : Type 0 where
   pub two : m.blocks.refs ≡ 2 → IsSome m.up2
 
 -- the same, with the limits of a plane's size, which every upconverted plane keeps
-pub record IsMotion (m : Compensation) : Type 0 where
+pub record IsCompensation (m : Compensation) : Type 0 where
   pub grid : IsTrue (is_grid m.chroma m.prediction.grid)
   pub precision : m.prediction.precision ≤ 3
   pub some_bits : 1 ≤ m.prediction.weight_bits
@@ -167,4 +167,4 @@ abbrev pub IsFlat : Compensation → ℤ → Type 0
 IsFlat m v =
     (i j : ℕ) → i < blocks_across m → j < blocks_down m
     → ((block_at m.blocks i j).ref1 ≡ false) × ((block_at m.blocks i j).ref2 ≡ false)
-    × (dc_of m.component (block_at m.blocks i j) ≡ v)
+    × (component_dc m.component (block_at m.blocks i j) ≡ v)

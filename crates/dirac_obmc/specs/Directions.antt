@@ -45,7 +45,7 @@ pub record IsColumns (m : Compensation) (c : Columns) : Type 0 where
   pub weights : IsWeights (blocks_across m) (x_length m) (x_separation m) c.weights.now
 
 -- what block tables and upconverted planes always keep
-pub record IsSound (m : Compensation) : Type 0 where
+pub record IsSoundCompensation (m : Compensation) : Type 0 where
   pub blocks : IsBlockTable m.blocks
   pub first : All IsSample m.up1.table.values
   pub second : ForSome m.up2 (λ u. All IsSample u.table.values)

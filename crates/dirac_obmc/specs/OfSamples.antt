@@ -5,7 +5,8 @@ use Rattle.std.specs.Option.{ForSome}
 use Rattle.dirac_header.specs.declared.prediction.Prediction.{Prediction}
 use Rattle.dirac_block_table.specs.Tables.{block_at}
 use Rattle.dirac_upconvert.specs.HalfSamples.{IsSample}
-use Rattle.dirac_obmc.specs.Compensation.{Compensation, IsMotion, blocks_across, blocks_down, dc_of, predicted_at}
+use Rattle.dirac_obmc.specs.Compensation.{Compensation, IsCompensation, blocks_across, blocks_down, component_dc}
+use Rattle.dirac_obmc.specs.Compensation.{predicted_at}
 use Rattle.dirac_obmc.specs.Compensation.{predicted_plane}
 
 -- the weights of a picture that writes none: both references count alike
@@ -19,14 +20,15 @@ pub record IsOfSamples (m : Compensation) : Type 0 where
   pub weights : HasDefaultWeights m.prediction
   pub first : All IsSample m.up1.table.values
   pub second : ForSome m.up2 (λ u. All IsSample u.table.values)
-  pub dc : (i j : ℕ) → i < blocks_across m → j < blocks_down m → IsSample (dc_of m.component (block_at m.blocks i j))
+  pub dc : (i j : ℕ) → i < blocks_across m → j < blocks_down m
+      → IsSample (component_dc m.component (block_at m.blocks i j))
 
 -- what is predicted from samples alone is a sample
 abbrev pub SamplesPredictSamples : Type 0
 SamplesPredictSamples =
-    (m : Compensation) → IsMotion m → IsOfSamples m → (x y : ℕ) → x < m.width → y < m.height
+    (m : Compensation) → IsCompensation m → IsOfSamples m → (x y : ℕ) → x < m.width → y < m.height
     → IsSample (predicted_at m x y)
 
 -- and so is each value of a plane that is
 abbrev pub PlanesOfSamples : Type 0
-PlanesOfSamples = (m : Compensation) → IsMotion m → IsOfSamples m → All IsSample (predicted_plane m).values
+PlanesOfSamples = (m : Compensation) → IsCompensation m → IsOfSamples m → All IsSample (predicted_plane m).values

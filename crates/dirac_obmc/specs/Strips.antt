@@ -7,10 +7,11 @@ use Rattle.dirac_obmc.specs.declared.room.BlockRoom.{BlockRoom}
 use Rattle.dirac_obmc.specs.declared.rows.Lines.{Lines}
 use Rattle.dirac_obmc.specs.declared.rows.Part.{Part}
 use Rattle.dirac_obmc.specs.declared.rows.Span.{Span}
-use Rattle.dirac_obmc.specs.Compensation.{Compensation, blocks_across, blocks_down, predicts, term, total, x_length}
+use Rattle.dirac_obmc.specs.Compensation.{Compensation, blocks_across, blocks_down, predicts, term, signed_total}
+use Rattle.dirac_obmc.specs.Compensation.{x_length}
 use Rattle.dirac_obmc.specs.Compensation.{x_separation, y_length, y_separation}
 use Rattle.dirac_obmc.specs.Directions.{IsDown, IsWeights}
-use Rattle.dirac_obmc.specs.Weights.{margin, share, sum_below}
+use Rattle.dirac_obmc.specs.Weights.{block_margin, share, sum_below}
 
 -- what block i of row j adds at place p of the rows of a plane from row `first` on
 abbrev pub added_at : Compensation → ℕ → ℕ → ℕ → ℕ → ℤ
@@ -38,7 +39,7 @@ pub record IsSpan (block count len separation least most : ℕ) (s : Span) : Typ
 
 -- what `count` blocks from block i on of row j add together at column x of row y
 abbrev pub run_term : Compensation → ℕ → ℕ → ℕ → ℕ → ℕ → ℤ
-run_term m x y j i count = total (λ k. term m x y j (i + k)) count
+run_term m x y j i count = signed_total (λ k. term m x y j (i + k)) count
 
 -- what they add at place p of the rows of a plane from row `first` on
 abbrev pub run_added_at : Compensation → ℕ → ℕ → ℕ → ℕ → ℕ → ℤ
@@ -62,13 +63,13 @@ pub record AreRunParts (len separation i n left right single last : ℕ) : Type 
   pub from : left ≤ single
   pub ordered : single ≤ last
   pub to : last ≤ right
-  pub begun : i * separation ≤ left + margin len separation
-  pub first : (x : ℕ) → x < single → x + margin len separation < (i + 1) * separation
-  pub single_fits : single + margin len separation ≤ i * separation + len
-  pub between_from : (x : ℕ) → single ≤ x → x < last → (i + 1) * separation ≤ x + margin len separation
-  pub between_to : (x : ℕ) → single ≤ x → x < last → x < (i + n - 1) * separation + margin len separation
-  pub behind : (x : ℕ) → last ≤ x → x < right → (i + n - 1) * separation + margin len separation ≤ x
-  pub last_fits : last + margin len separation - (i + n - 1) * separation + (right - last) ≤ len
+  pub begun : i * separation ≤ left + block_margin len separation
+  pub first : (x : ℕ) → x < single → x + block_margin len separation < (i + 1) * separation
+  pub single_fits : single + block_margin len separation ≤ i * separation + len
+  pub between_from : (x : ℕ) → single ≤ x → x < last → (i + 1) * separation ≤ x + block_margin len separation
+  pub between_to : (x : ℕ) → single ≤ x → x < last → x < (i + n - 1) * separation + block_margin len separation
+  pub behind : (x : ℕ) → last ≤ x → x < right → (i + n - 1) * separation + block_margin len separation ≤ x
+  pub last_fits : last + block_margin len separation - (i + n - 1) * separation + (right - last) ≤ len
 
 -- the places from `left` to `right` - 1, which alone of a plane's `size` places `many` blocks from block i on hold, and
 -- the weights that those blocks have there together, 0 behind them
@@ -82,7 +83,7 @@ pub record AreRunWeights (count len separation size i many left right : ℕ) (ws
   pub small : All (λ w. w ≤ 8) ws
 
 -- what a run of blocks predicts in some columns and rows
-pub record IsPart (m : Compensation) (first end : ℕ) (p : Part) : Type 0 where
+pub record IsPartOfRun (m : Compensation) (first end : ℕ) (p : Part) : Type 0 where
   pub run : IsRun m p.run.i p.run.count p.run.j
   pub columns : AreRunWeights (blocks_across m) (x_length m) (x_separation m) m.width p.run.i p.run.count p.left p.right
       p.weights.now
@@ -96,7 +97,7 @@ pub record IsPart (m : Compensation) (first end : ℕ) (p : Part) : Type 0 where
       (pos 0) ≡ predicts m (block_at m.blocks p.run.i p.run.j) (p.left + k) (p.down.start + r)
 
 -- room for blocks of that many rows
-pub record IsRoom (rows : ℕ) (r : BlockRoom) : Type 0 where
+pub record IsRoomForRows (rows : ℕ) (r : BlockRoom) : Type 0 where
   pub few_rows : rows ≤ 64
   pub first : vec_len r.first ≡ 64 * rows
   pub second : vec_len r.second ≡ 64 * rows

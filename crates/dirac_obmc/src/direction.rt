@@ -1,7 +1,7 @@
 ghost use Rattle.std.specs.Prelude.{◌≡◌, ◌≤◌};
-ghost use Rattle.dirac_obmc.specs.Compensation.{IsMotion, ratio_of, across_ratio, down_ratio};
+ghost use Rattle.dirac_obmc.specs.Compensation.{IsCompensation, ratio_of, across_ratio, down_ratio};
 ghost use Rattle.dirac_obmc.specs.Directions.{IsAcross, IsDown, columns_of};
-ghost use Rattle.dirac_obmc.specs.Given.{given};
+ghost use Rattle.dirac_obmc.specs.Given.{compensation_of};
 
 use crate::motion::Motion;
 use dirac_common::{Component, ratio_across, ratio_down};
@@ -26,7 +26,7 @@ fn ratio(component: Component, ratio: u32) -> u32
 
 /// How many luma samples a sample of the plane stands for across.
 pub fn across_ratio(motion: &Motion<'_>) -> u32
-    ensures value { result ≡ Rattle.dirac_obmc.specs.Compensation.across_ratio (given motion.now) }
+    ensures value { result ≡ Rattle.dirac_obmc.specs.Compensation.across_ratio (compensation_of motion.now) }
     ensures at_least_1 { 1 ≤ result }
     ensures at_most_2 { result ≤ 2 }
 {
@@ -35,7 +35,7 @@ pub fn across_ratio(motion: &Motion<'_>) -> u32
 
 /// How many luma samples a sample of the plane stands for down.
 pub fn down_ratio(motion: &Motion<'_>) -> u32
-    ensures value { result ≡ Rattle.dirac_obmc.specs.Compensation.down_ratio (given motion.now) }
+    ensures value { result ≡ Rattle.dirac_obmc.specs.Compensation.down_ratio (compensation_of motion.now) }
     ensures at_least_1 { 1 ≤ result }
     ensures at_most_2 { result ≤ 2 }
 {
@@ -44,9 +44,9 @@ pub fn down_ratio(motion: &Motion<'_>) -> u32
 
 /// The blocks of the plane from left to right.
 pub fn across(motion: &Motion<'_>) -> Direction
-    requires { IsMotion (given motion.now) }
-    ensures direction { IsAcross (given motion.now) result }
-    ensures value { result ≡ columns_of (given motion.now) }
+    requires { IsCompensation (compensation_of motion.now) }
+    ensures direction { IsAcross (compensation_of motion.now) result }
+    ensures value { result ≡ columns_of (compensation_of motion.now) }
 {
     let ratio = across_ratio(motion);
     Direction {
@@ -58,8 +58,8 @@ pub fn across(motion: &Motion<'_>) -> Direction
 
 /// The blocks of the plane from top to bottom.
 pub fn down(motion: &Motion<'_>) -> Direction
-    requires { IsMotion (given motion.now) }
-    ensures { IsDown (given motion.now) result }
+    requires { IsCompensation (compensation_of motion.now) }
+    ensures { IsDown (compensation_of motion.now) result }
 {
     let ratio = down_ratio(motion);
     Direction {

@@ -1,9 +1,10 @@
 ghost use Rattle.std.specs.Prelude.{◌≡◌, ℕ, ◌+◌, ◌-◌, ◌^◌, ◌<◌, ◌≤◌, unsigned_abs, IfOk};
 ghost use Rattle.std.specs.List.{All};
 ghost use Rattle.dirac_common.specs.Table.{table_at};
-ghost use Rattle.dirac_obmc.specs.Given.{given};
-ghost use Rattle.dirac_obmc.specs.Compensation.{IsMotion, IsPredictable, predicted_at, predicted_plane, predicted_rows};
-ghost use Rattle.dirac_obmc.specs.Directions.{IsColumns, IsSound, columns_of};
+ghost use Rattle.dirac_obmc.specs.Given.{compensation_of};
+ghost use Rattle.dirac_obmc.specs.Compensation.{IsCompensation, IsPredictable, predicted_at, predicted_plane};
+ghost use Rattle.dirac_obmc.specs.Compensation.{predicted_rows};
+ghost use Rattle.dirac_obmc.specs.Directions.{IsColumns, IsSoundCompensation, columns_of};
 
 use crate::columns::ColumnWeights;
 use crate::direction::{across, down};
@@ -17,7 +18,7 @@ use std::alloc::Global;
 
 /// What the block table and the references of a motion always keep.
 fn lawful(motion: &Motion<'_>)
-    ensures { IsSound (given motion.now) }
+    ensures { IsSoundCompensation (compensation_of motion.now) }
 {
     let _blocks = motion.blocks.refs();
     let _first = motion.up1.width();
@@ -31,16 +32,16 @@ fn lawful(motion: &Motion<'_>)
 
 /// The limits of the plane's size, which its first reference has.
 fn bounded(motion: &Motion<'_>)
-    requires { IsPredictable (given motion.now) }
-    ensures { IsMotion (given motion.now) }
+    requires { IsPredictable (compensation_of motion.now) }
+    ensures { IsCompensation (compensation_of motion.now) }
 {
     let _first = motion.up1.width();
 }
 
 /// The weights of the columns of a plane, made once for all its rows.
 pub fn column_weights(alloc: Global, motion: &Motion<'_>) -> Result<ColumnWeights, NoMemory>
-    requires motion { IsPredictable (given motion.now) }
-    ensures { IfOk result (λ c. c ≡ columns_of (given motion.now)) }
+    requires motion { IsPredictable (compensation_of motion.now) }
+    ensures { IfOk result (λ c. c ≡ columns_of (compensation_of motion.now)) }
 {
     bounded(motion);
     let weights = ColumnWeights::try_new(alloc, across(motion))?;
@@ -49,9 +50,9 @@ pub fn column_weights(alloc: Global, motion: &Motion<'_>) -> Result<ColumnWeight
 
 /// The blocks of the plane from left to right, with these weights.
 fn columns_with<'a>(motion: &Motion<'_>, weights: &'a ColumnWeights) -> Columns<'a>
-    requires motion { IsMotion (given motion.now) }
-    requires weights { weights.now ≡ columns_of (given motion.now) }
-    ensures { IsColumns (given motion.now) result }
+    requires motion { IsCompensation (compensation_of motion.now) }
+    requires weights { weights.now ≡ columns_of (compensation_of motion.now) }
+    ensures { IsColumns (compensation_of motion.now) result }
 {
     Columns {
         blocks: across(motion),
@@ -70,11 +71,11 @@ pub fn predict_rows_with(
 ) -> Result<Predicted, NoMemory>
     requires not_empty { first < end }
     requires inside { end ≤ motion.now.height }
-    requires motion { IsPredictable (given motion.now) }
-    requires weights { weights.now ≡ columns_of (given motion.now) }
-    ensures value { IfOk result (λ t. t ≡ predicted_rows (given motion.now) first end) }
+    requires motion { IsPredictable (compensation_of motion.now) }
+    requires weights { weights.now ≡ columns_of (compensation_of motion.now) }
+    ensures value { IfOk result (λ t. t ≡ predicted_rows (compensation_of motion.now) first end) }
     ensures each { IfOk result (λ t. (x y : ℕ) → x < motion.now.width → y < end - first → table_at t x y
-        ≡ predicted_at (given motion.now) x (first + y)) }
+        ≡ predicted_at (compensation_of motion.now) x (first + y)) }
     ensures magnitudes_at_most_2_15 { IfOk result (λ t. All (λ v. unsigned_abs v ≤ 2 ^ 15) t.values) }
 {
     bounded(motion);
@@ -103,10 +104,10 @@ pub fn predict_rows(
 ) -> Result<Predicted, NoMemory>
     requires not_empty { first < end }
     requires inside { end ≤ motion.now.height }
-    requires motion { IsPredictable (given motion.now) }
-    ensures value { IfOk result (λ t. t ≡ predicted_rows (given motion.now) first end) }
+    requires motion { IsPredictable (compensation_of motion.now) }
+    ensures value { IfOk result (λ t. t ≡ predicted_rows (compensation_of motion.now) first end) }
     ensures each { IfOk result (λ t. (x y : ℕ) → x < motion.now.width → y < end - first → table_at t x y
-        ≡ predicted_at (given motion.now) x (first + y)) }
+        ≡ predicted_at (compensation_of motion.now) x (first + y)) }
     ensures magnitudes_at_most_2_15 { IfOk result (λ t. All (λ v. unsigned_abs v ≤ 2 ^ 15) t.values) }
 {
     let weights = column_weights(alloc, motion)?;
@@ -115,10 +116,10 @@ pub fn predict_rows(
 
 /// The predictions of all samples of a plane (motion compensation, Dirac specification).
 pub fn predict_plane(alloc: Global, motion: &Motion<'_>) -> Result<Predicted, NoMemory>
-    requires motion { IsPredictable (given motion.now) }
-    ensures value { IfOk result (λ t. t ≡ predicted_plane (given motion.now)) }
+    requires motion { IsPredictable (compensation_of motion.now) }
+    ensures value { IfOk result (λ t. t ≡ predicted_plane (compensation_of motion.now)) }
     ensures each { IfOk result (λ t. (x y : ℕ) → x < motion.now.width → y < motion.now.height → table_at t x y
-        ≡ predicted_at (given motion.now) x y) }
+        ≡ predicted_at (compensation_of motion.now) x y) }
     ensures magnitudes_at_most_2_15 { IfOk result (λ t. All (λ v. unsigned_abs v ≤ 2 ^ 15) t.values) }
 {
     bounded(motion);

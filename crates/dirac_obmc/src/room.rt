@@ -1,6 +1,6 @@
 ghost use Rattle.std.specs.Prelude.{◌≡◌, ◌≤◌, length, IfOk};
 ghost use Rattle.dirac_obmc.specs.Weights.{IsOverlap};
-ghost use Rattle.dirac_obmc.specs.Strips.{IsRoom};
+ghost use Rattle.dirac_obmc.specs.Strips.{IsRoomForRows};
 
 use crate::direction::Direction;
 use dirac_common::NoMemory;
@@ -36,7 +36,7 @@ fn no_weights(alloc: Global, count: u32) -> Result<Vec<u8>, NoMemory>
 /// Room for blocks of as many rows as these.
 pub fn block_room(alloc: Global, down: Direction) -> Result<BlockRoom, NoMemory>
     requires { IsOverlap down.length down.separation }
-    ensures { IfOk result (IsRoom down.length) }
+    ensures { IfOk result (IsRoomForRows down.length) }
 {
     let count = MOST_COLUMNS * down.length;
     Ok(BlockRoom {

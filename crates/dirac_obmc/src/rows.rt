@@ -4,13 +4,14 @@ ghost use Rattle.std.specs.List.{All};
 ghost use Rattle.dirac_block_table.specs.Tables.{block_at};
 ghost use Rattle.dirac_obmc.specs.Adding.{Adds, PutWeights};
 ghost use Rattle.dirac_obmc.specs.Blending.{IsBlending};
-ghost use Rattle.dirac_obmc.specs.Compensation.{IsMotion, blended, blocks_across, blocks_down, predicted_at, total};
+ghost use Rattle.dirac_obmc.specs.Compensation.{IsCompensation, blocks_across, blocks_down, predicted_at, signed_total};
 ghost use Rattle.dirac_obmc.specs.Compensation.{y_length};
-ghost use Rattle.dirac_obmc.specs.Directions.{IsAcross, IsSound, IsWeights};
-ghost use Rattle.dirac_obmc.specs.Given.{given};
-ghost use Rattle.dirac_obmc.specs.Strips.{AreRunParts, AreValues, IsLines, IsPart, IsRoom, IsRun, IsSpan, added_at};
+ghost use Rattle.dirac_obmc.specs.Directions.{IsAcross, IsSoundCompensation, IsWeights};
+ghost use Rattle.dirac_obmc.specs.Given.{compensation_of};
+ghost use Rattle.dirac_obmc.specs.Strips.{AreRunParts, AreValues, IsLines, IsPartOfRun, IsRoomForRows, IsRun, IsSpan};
+ghost use Rattle.dirac_obmc.specs.Strips.{added_at};
 ghost use Rattle.dirac_obmc.specs.Strips.{run_added_at, run_share};
-ghost use Rattle.dirac_obmc.specs.Weights.{IsOverlap, margin};
+ghost use Rattle.dirac_obmc.specs.Weights.{IsOverlap, block_margin};
 
 use crate::direction::Direction;
 use crate::motion::Motion;
@@ -123,7 +124,7 @@ fn listed_at(blocks: Direction, block: u32, place: u32) -> usize
     requires block { block < blocks.count }
     requires count { blocks.count ≤ LARGEST_SIDE }
     requires place { place ≤ LARGEST_SIDE }
-    ensures { result ≡ block * blocks.length + (place + margin blocks.length blocks.separation
+    ensures { result ≡ block * blocks.length + (place + block_margin blocks.length blocks.separation
         - block * blocks.separation) }
 {
     let margin = (blocks.length - blocks.separation) / 2;
@@ -146,8 +147,8 @@ fn parts_of(blocks: Direction, run: Run, left: u32, right: u32) -> RunParts
     requires some { 1 ≤ run.count }
     requires run { run.i + run.count ≤ blocks.count }
     requires count { blocks.count ≤ LARGEST_SIDE }
-    requires left { left ≡ run.i * blocks.separation - margin blocks.length blocks.separation }
-    requires right { right + margin blocks.length blocks.separation ≤ (run.i + run.count - 1) * blocks.separation
+    requires left { left ≡ run.i * blocks.separation - block_margin blocks.length blocks.separation }
+    requires right { right + block_margin blocks.length blocks.separation ≤ (run.i + run.count - 1) * blocks.separation
         + blocks.length }
     requires ordered { left < right }
     ensures { AreRunParts blocks.length blocks.separation run.i run.count left right result.single result.last }
@@ -170,8 +171,9 @@ fn run_weights(columns: Columns<'_>, run: Run, left: u32, right: u32, out: &mut 
     requires count { columns.blocks.count ≤ LARGEST_SIDE }
     requires weights { IsWeights columns.blocks.count columns.blocks.length columns.blocks.separation
         columns.weights.now }
-    requires left { left ≡ run.i * columns.blocks.separation - margin columns.blocks.length columns.blocks.separation }
-    requires right { right + margin columns.blocks.length columns.blocks.separation ≤ (run.i + run.count - 1)
+    requires left { left ≡ run.i * columns.blocks.separation
+        - block_margin columns.blocks.length columns.blocks.separation }
+    requires right { right + block_margin columns.blocks.length columns.blocks.separation ≤ (run.i + run.count - 1)
         * columns.blocks.separation + columns.blocks.length }
     requires ordered { left < right }
     requires at_most_4096 { right ≤ LARGEST_SIDE }
@@ -194,47 +196,28 @@ fn run_weights(columns: Columns<'_>, run: Run, left: u32, right: u32, out: &mut 
     copy_weights(columns.weights, last, out, single + between, behind);
 }
 
-/// So many columns, rounded up to eights where there are as many values, and as many sums are left.
-#[inline(always)]
-fn in_whole_eights(columns: usize, values: usize, left: usize) -> usize
-    requires columns { columns ≤ LARGEST_SIDE }
-    requires values { columns ≤ values }
-    requires left { columns ≤ left }
-    ensures all { columns ≤ result }
-    ensures values { result ≤ values }
-    ensures left { result ≤ left }
-{
-    let eights = (columns + 7) / 8 * 8;
-    if eights <= values && eights <= left {
-        eights
-    } else {
-        columns
-    }
-}
-
-/// Adds to the sums of all rows what a run of blocks predicts. What stands behind its columns has the weight 0.
+/// Adds to the sums of all rows what a run of blocks predicts, as far as there are sums. What stands behind its columns
+/// has the weight 0.
 fn add_part(motion: &Motion<'_>, lines: Lines<'_>, part: Part<'_>, sums: &mut [i32])
-    requires motion { IsMotion (given motion.now) }
-    requires sound { IsSound (given motion.now) }
-    requires lines { IsLines (given motion.now) lines }
-    requires part { IsPart (given motion.now) lines.first lines.end part }
+    requires motion { IsCompensation (compensation_of motion.now) }
+    requires sound { IsSoundCompensation (compensation_of motion.now) }
+    requires lines { IsLines (compensation_of motion.now) lines }
+    requires part { IsPartOfRun (compensation_of motion.now) lines.first lines.end part }
     requires len { length sums.old ≡ motion.now.width * (lines.end - lines.first) }
     requires sums { All (λ v. unsigned_abs v ≤ 2 ^ 22) sums.old }
-    ensures { Adds (run_added_at (given motion.now) lines.entry.first part.entry.run.j part.entry.run.i
+    ensures { Adds (run_added_at (compensation_of motion.now) lines.entry.first part.entry.run.j part.entry.run.i
         part.entry.run.count) (motion.now.width * (lines.entry.end - lines.entry.first)) sums.old sums.new }
 {
     for y in part.down.start..part.down.end {
         let row = (y - part.down.start) as usize;
         let place = (y - lines.first) as usize * motion.width as usize + part.left as usize;
-        let columns = (part.right - part.left) as usize;
-        let count = in_whole_eights(columns, part.width, sums.len() - place);
         let weighed = Weighed {
             values: part.values,
             at: row * part.width,
             weights: part.weights,
-            first: 0,
             down: lines.weights[part.down.weights as usize + row],
         };
+        let count = part.width.min(sums.len() - place);
         add_values(sums, place, weighed, count);
     }
 }
@@ -248,18 +231,19 @@ fn predict_run(
     down: Span,
     room: &mut BlockRoom,
 )
-    requires motion { IsMotion (given motion.now) }
-    requires across { run.i < blocks_across (given motion.now) }
-    requires down { run.j < blocks_down (given motion.now) }
+    requires motion { IsCompensation (compensation_of motion.now) }
+    requires across { run.i < blocks_across (compensation_of motion.now) }
+    requires down { run.j < blocks_down (compensation_of motion.now) }
     requires columns { left < motion.now.width }
     requires rows { (down.start < down.end) × (down.end ≤ motion.now.height) }
-    requires few_rows { down.end - down.start ≤ y_length (given motion.now) }
+    requires few_rows { down.end - down.start ≤ y_length (compensation_of motion.now) }
     requires some { 1 ≤ width }
     requires at_most_64 { width ≤ 64 }
-    requires room_fits { IsRoom (y_length (given motion.now)) room.old }
-    ensures room_fits { IsRoom (y_length (given motion.now)) room.new }
+    requires room_fits { IsRoomForRows (y_length (compensation_of motion.now)) room.old }
+    ensures room_fits { IsRoomForRows (y_length (compensation_of motion.now)) room.new }
     ensures weights { room.new.weights.items ≡ room.old.weights.items }
-    ensures values { AreValues (given motion.now) run.i run.j left down.start (down.end - down.start) width room.new }
+    ensures values { AreValues (compensation_of motion.now) run.i run.j left down.start (down.end - down.start) width
+        room.new }
 {
     let block = motion.blocks.at(run.i, run.j);
     let window = Window {
@@ -297,13 +281,14 @@ fn add_run(
     room: &mut BlockRoom,
     sums: &mut [i32],
 )
-    requires blending { IsBlending (given motion.now) columns lines }
-    requires run { IsRun (given motion.now) run.i run.count run.j }
-    requires room_fits { IsRoom (y_length (given motion.now)) room.old }
+    requires blending { IsBlending (compensation_of motion.now) columns lines }
+    requires run { IsRun (compensation_of motion.now) run.i run.count run.j }
+    requires room_fits { IsRoomForRows (y_length (compensation_of motion.now)) room.old }
     requires len { length sums.old ≡ motion.now.width * (lines.end - lines.first) }
     requires sums { All (λ v. unsigned_abs v ≤ 2 ^ 22) sums.old }
-    ensures room_fits { IsRoom (y_length (given motion.now)) room.new }
-    ensures sums { Adds (run_added_at (given motion.now) lines.entry.first run.j run.i run.count) (motion.now.width
+    ensures room_fits { IsRoomForRows (y_length (compensation_of motion.now)) room.new }
+    ensures sums { Adds (run_added_at (compensation_of motion.now) lines.entry.first run.j run.i run.count)
+        (motion.now.width
         * (lines.entry.end - lines.entry.first)) sums.old sums.new }
 {
     let first = held(columns.blocks, run.i, 0, motion.width);
@@ -381,9 +366,9 @@ fn are_alike(a: Block, b: Block) -> bool
 
 /// Whether the next block goes on with a run.
 fn goes_on(motion: &Motion<'_>, blocks: Direction, run: Run) -> bool
-    requires motion { IsMotion (given motion.now) }
-    requires blocks { IsAcross (given motion.now) blocks }
-    requires run { IsRun (given motion.now) run.i run.count run.j }
+    requires motion { IsCompensation (compensation_of motion.now) }
+    requires blocks { IsAcross (compensation_of motion.now) blocks }
+    requires run { IsRun (compensation_of motion.now) run.i run.count run.j }
     ensures inside { IsTrue result → run.i + run.count < blocks.count }
     ensures fits { IsTrue result → run.count * blocks.separation + blocks.length ≤ 64 }
     ensures same { IsTrue result → block_at motion.now.blocks.now (run.i + run.count) run.j
@@ -397,36 +382,6 @@ fn goes_on(motion: &Motion<'_>, blocks: Direction, run: Run) -> bool
         )
 }
 
-/// Adds to the sums of all rows what the blocks of a run add, where the next block doesn't go on with it; of how many
-/// blocks that is.
-fn add_ended(
-    motion: &Motion<'_>,
-    columns: Columns<'_>,
-    lines: Lines<'_>,
-    run: Run,
-    room: &mut BlockRoom,
-    sums: &mut [i32],
-) -> u32
-    requires blending { IsBlending (given motion.now) columns lines }
-    requires run { IsRun (given motion.now) run.i run.count run.j }
-    requires room_fits { IsRoom (y_length (given motion.now)) room.old }
-    requires len { length sums.old ≡ motion.now.width * (lines.end - lines.first) }
-    requires sums { All (λ v. unsigned_abs v ≤ 2 ^ 22) sums.old }
-    ensures room_fits { IsRoom (y_length (given motion.now)) room.new }
-    ensures within { result ≤ run.count }
-    ensures last { run.i + run.count ≡ blocks_across (given motion.now) → result ≡ run.count }
-    ensures next { run.i + run.count < blocks_across (given motion.now) → IsRun (given motion.now) (run.i + result)
-        (run.count + 1 - result) run.j }
-    ensures sums { Adds (run_added_at (given motion.now) lines.entry.first run.j run.i result) (motion.now.width
-        * (lines.entry.end - lines.entry.first)) sums.old sums.new }
-{
-    if goes_on(motion, columns.blocks, run) {
-        return 0;
-    }
-    add_run(motion, columns, lines, run, room, sums);
-    run.count
-}
-
 /// Adds to the sums of all rows what the blocks of row `j` add. Blocks that stand side by side and are alike are
 /// predicted together.
 fn add_blocks(
@@ -437,13 +392,14 @@ fn add_blocks(
     room: &mut BlockRoom,
     sums: &mut [i32],
 )
-    requires blending { IsBlending (given motion.now) columns lines }
-    requires down { j < blocks_down (given motion.now) }
-    requires room_fits { IsRoom (y_length (given motion.now)) room.old }
+    requires blending { IsBlending (compensation_of motion.now) columns lines }
+    requires down { j < blocks_down (compensation_of motion.now) }
+    requires room_fits { IsRoomForRows (y_length (compensation_of motion.now)) room.old }
     requires len { length sums.old ≡ motion.now.width * (lines.end - lines.first) }
     requires sums { All (λ v. unsigned_abs v ≤ 2 ^ 21) sums.old }
-    ensures room_fits { IsRoom (y_length (given motion.now)) room.new }
-    ensures sums { Adds (λ p. total (λ i. added_at (given motion.now) lines.entry.first j i p) (blocks_across (given
+    ensures room_fits { IsRoomForRows (y_length (compensation_of motion.now)) room.new }
+    ensures sums { Adds (λ p. signed_total (λ i. added_at (compensation_of motion.now) lines.entry.first j i p)
+        (blocks_across (compensation_of
         motion.now))) (motion.now.width * (lines.entry.end - lines.entry.first)) sums.old sums.new }
 {
     let mut begin = 0;
@@ -453,7 +409,10 @@ fn add_blocks(
             count: i + 1 - begin,
             j,
         };
-        begin += add_ended(motion, columns, lines, run, room, sums);
+        if !goes_on(motion, columns.blocks, run) {
+            add_run(motion, columns, lines, run, room, sums);
+            begin = i + 1;
+        }
     }
 }
 
@@ -461,7 +420,7 @@ fn add_blocks(
 fn first_row(rows: Direction, y: u32) -> u32
     requires rows { Rattle.dirac_obmc.specs.Weights.IsOverlap rows.length rows.separation }
     requires place { y ≤ LARGEST_SIDE }
-    ensures { (j : ℕ) → j < result → j * rows.separation + rows.length ≤ y + margin rows.length rows.separation }
+    ensures { (j : ℕ) → j < result → j * rows.separation + rows.length ≤ y + block_margin rows.length rows.separation }
 {
     let place = y + (rows.length - rows.separation) / 2;
     if place < rows.length {
@@ -475,7 +434,7 @@ fn first_row(rows: Direction, y: u32) -> u32
 fn end_row(rows: Direction, y: u32) -> u32
     requires rows { Rattle.dirac_obmc.specs.Weights.IsOverlap rows.length rows.separation }
     requires place { y ≤ LARGEST_SIDE }
-    ensures behind { (j : ℕ) → result ≤ j → j < rows.count → y + margin rows.length rows.separation
+    ensures behind { (j : ℕ) → result ≤ j → j < rows.count → y + block_margin rows.length rows.separation
         < j * rows.separation }
     ensures within { result ≤ rows.count }
 {
@@ -483,29 +442,7 @@ fn end_row(rows: Direction, y: u32) -> u32
     (place / rows.separation + 1).min(rows.count)
 }
 
-/// Adds to the sums of all rows what all blocks add.
-fn add_rows(
-    motion: &Motion<'_>,
-    columns: Columns<'_>,
-    lines: Lines<'_>,
-    room: &mut BlockRoom,
-    sums: &mut [i32],
-)
-    requires blending { IsBlending (given motion.now) columns lines }
-    requires room_fits { IsRoom (y_length (given motion.now)) room.old }
-    requires len { length sums.old ≡ motion.now.width * (lines.end - lines.first) }
-    requires sums { (p : ℕ) → slice_index_or sums.old p (pos 0) ≡ pos 0 }
-    ensures room_fits { IsRoom (y_length (given motion.now)) room.new }
-    ensures value { (p : ℕ) → p < length sums.old → slice_index_or sums.new p (pos 0)
-        ≡ blended (given motion.now) (p % motion.now.width) (lines.entry.first + p / motion.now.width) }
-    ensures magnitudes_at_most_2_21 { All (λ v. unsigned_abs v ≤ 2 ^ 21) sums.new }
-{
-    for j in first_row(lines.blocks, lines.first)..end_row(lines.blocks, lines.end - 1) {
-        add_blocks(motion, columns, lines, j, room, sums);
-    }
-}
-
-/// Writes the predictions of rows that are all 0 yet.
+/// Writes the predictions of rows that are all 0 yet: what all blocks add, divided.
 fn predict_strip(
     motion: &Motion<'_>,
     columns: Columns<'_>,
@@ -513,15 +450,17 @@ fn predict_strip(
     room: &mut BlockRoom,
     out: &mut [i32],
 )
-    requires blending { IsBlending (given motion.now) columns lines }
-    requires room_fits { IsRoom (y_length (given motion.now)) room.old }
+    requires blending { IsBlending (compensation_of motion.now) columns lines }
+    requires room_fits { IsRoomForRows (y_length (compensation_of motion.now)) room.old }
     requires len { length out.old ≡ motion.now.width * (lines.end - lines.first) }
     requires out { (p : ℕ) → slice_index_or out.old p (pos 0) ≡ pos 0 }
-    ensures room_fits { IsRoom (y_length (given motion.now)) room.new }
+    ensures room_fits { IsRoomForRows (y_length (compensation_of motion.now)) room.new }
     ensures value { (p : ℕ) → p < length out.old → slice_index_or out.new p (pos 0)
-        ≡ predicted_at (given motion.now) (p % motion.now.width) (lines.entry.first + p / motion.now.width) }
+        ≡ predicted_at (compensation_of motion.now) (p % motion.now.width) (lines.entry.first + p / motion.now.width) }
 {
-    add_rows(motion, columns, lines, room, out);
+    for j in first_row(lines.blocks, lines.first)..end_row(lines.blocks, lines.end - 1) {
+        add_blocks(motion, columns, lines, j, room, out);
+    }
     divide_sums(out);
 }
 
@@ -536,12 +475,12 @@ pub fn predict_lines(
     room: &mut BlockRoom,
     out: &mut [i32],
 )
-    requires blending { IsBlending (given motion.now) columns lines }
-    requires room_fits { IsRoom (y_length (given motion.now)) room.old }
+    requires blending { IsBlending (compensation_of motion.now) columns lines }
+    requires room_fits { IsRoomForRows (y_length (compensation_of motion.now)) room.old }
     requires len { length out.old ≡ motion.now.width * (lines.end - lines.first) }
     requires out { (p : ℕ) → slice_index_or out.old p (pos 0) ≡ pos 0 }
     ensures { (p : ℕ) → p < length out.old → slice_index_or out.new p (pos 0)
-        ≡ predicted_at (given motion.now) (p % motion.now.width) (lines.entry.first + p / motion.now.width) }
+        ≡ predicted_at (compensation_of motion.now) (p % motion.now.width) (lines.entry.first + p / motion.now.width) }
 {
     let width = motion.width as usize;
     for n in 0..(lines.end - lines.first + (STRIP_ROWS - 1)) / STRIP_ROWS {

@@ -2,7 +2,7 @@ ghost use Rattle.std.specs.Prelude.{◌≡◌, ℕ, pos, ◌+◌, ◌-◌, ◌*�
 ghost use Rattle.std.specs.Prelude.{slice_index, slice_index_or};
 ghost use Rattle.std.specs.Int.{int_shr};
 ghost use Rattle.std.specs.List.{All};
-ghost use Rattle.dirac_obmc.specs.Adding.{AddsPart, PutOver};
+ghost use Rattle.dirac_obmc.specs.Adding.{AddsPart, AreWeighed, PutOver, weighed_at};
 
 /// The weight of a value, from those across and down.
 #[inline(always)]
@@ -35,34 +35,28 @@ fn sum(sum: i32, more: i32) -> i32
     sum + more
 }
 
-/// Values of a row, from place `at` on, with their weights across, from place `first` on, and their weight down.
+/// Values of a row, from place `at` on, with their weights across and their weight down.
 #[derive(Clone, Copy)]
 pub struct Weighed<'a> {
     pub values: &'a [i16],
     pub at: usize,
     pub weights: &'a [u8],
-    pub first: usize,
     pub down: u8,
 }
 
 /// A sum and value `k` times its weights.
 #[inline(always)]
+#[tactic(auto, unfolding(crate::specs::Adding::weighed_at))]
 fn grown(sums: &[i32], place: usize, weighed: Weighed<'_>, k: usize) -> i32
     requires inside { place < length sums.now }
     requires sum { unsigned_abs (slice_index_or sums.now place (pos 0)) ≤ 2 ^ 23 }
-    requires enough { weighed.at + k < length weighed.values.now }
-    requires value { unsigned_abs (slice_index_or weighed.values.now (weighed.at + k) (pos 0)) ≤ 2 ^ 15 }
-    requires listed { weighed.first + k < length weighed.weights.now }
-    requires weights { All (λ w. w ≤ 8) weighed.weights.now }
-    requires down { weighed.down ≤ 8 }
-    ensures { result ≡ slice_index_or sums.now place (pos 0) +ℤ pos (slice_index weighed.entry.weights.now
-        (weighed.entry.first + k) * weighed.entry.down) *ℤ slice_index_or weighed.entry.values.now (weighed.entry.at
-        + k) (pos 0) }
+    requires weighed { AreWeighed weighed (k + 1) }
+    ensures { result ≡ slice_index_or sums.now place (pos 0) +ℤ weighed_at weighed.entry k }
 {
     sum(
         sums[place],
         weigh(
-            weighed.weights[weighed.first + k],
+            weighed.weights[k],
             weighed.down,
             weighed.values[weighed.at + k],
         ),
@@ -75,15 +69,9 @@ fn all_grown(sums: &[i32], place: usize, weighed: Weighed<'_>, at: usize, out: &
     requires inside { place + length out.old ≤ length sums.now }
     requires sums { (k : ℕ) → k < length out.old → unsigned_abs (slice_index_or sums.now (place + k) (pos 0))
         ≤ 2 ^ 23 }
-    requires enough { weighed.at + (at + length out.old) ≤ length weighed.values.now }
-    requires values { (k : ℕ) → k < length out.old → unsigned_abs (slice_index_or weighed.values.now (weighed.at
-        + (at + k)) (pos 0)) ≤ 2 ^ 15 }
-    requires listed { weighed.first + (at + length out.old) ≤ length weighed.weights.now }
-    requires weights { All (λ w. w ≤ 8) weighed.weights.now }
-    requires down { weighed.down ≤ 8 }
+    requires weighed { AreWeighed weighed (at + length out.old) }
     ensures { (k : ℕ) → k < length out.old → slice_index_or out.new k (pos 0) ≡ slice_index_or sums.now (place + k)
-        (pos 0) +ℤ pos (slice_index weighed.entry.weights.now (weighed.entry.first + (at + k)) * weighed.entry.down)
-        *ℤ slice_index_or weighed.entry.values.now (weighed.entry.at + (at + k)) (pos 0) }
+        (pos 0) +ℤ weighed_at weighed.entry (at + k) }
 {
     for k in 0..out.len() {
         out[k] = grown(sums, place + k, weighed, at + k);
@@ -107,15 +95,8 @@ fn put_sums(grown: &[i32], sums: &mut [i32], place: usize)
 fn add_eight(sums: &mut [i32], place: usize, weighed: Weighed<'_>, at: usize)
     requires inside { place + 8 ≤ length sums.old }
     requires sums { (k : ℕ) → k < 8 → unsigned_abs (slice_index_or sums.old (place + k) (pos 0)) ≤ 2 ^ 23 }
-    requires enough { weighed.at + (at + 8) ≤ length weighed.values.now }
-    requires values { (k : ℕ) → k < 8 → unsigned_abs (slice_index_or weighed.values.now (weighed.at + (at + k)) (pos 0))
-        ≤ 2 ^ 15 }
-    requires listed { weighed.first + (at + 8) ≤ length weighed.weights.now }
-    requires weights { All (λ w. w ≤ 8) weighed.weights.now }
-    requires down { weighed.down ≤ 8 }
-    ensures { AddsPart place (λ k. pos (slice_index weighed.entry.weights.now (weighed.entry.first + (at + k))
-        * weighed.entry.down) *ℤ slice_index_or weighed.entry.values.now (weighed.entry.at + (at + k)) (pos 0)) 8
-        sums.old sums.new }
+    requires weighed { AreWeighed weighed (at + 8) }
+    ensures { AddsPart place (λ k. weighed_at weighed.entry (at + k)) 8 sums.old sums.new }
 {
     let mut lanes = [0i32; 8];
     all_grown(sums, place, weighed, at, &mut lanes);
@@ -127,15 +108,8 @@ fn add_eight(sums: &mut [i32], place: usize, weighed: Weighed<'_>, at: usize)
 fn add_singly(sums: &mut [i32], place: usize, weighed: Weighed<'_>, at: usize, count: usize)
     requires inside { place + count ≤ length sums.old }
     requires sums { (k : ℕ) → k < count → unsigned_abs (slice_index_or sums.old (place + k) (pos 0)) ≤ 2 ^ 23 }
-    requires enough { weighed.at + (at + count) ≤ length weighed.values.now }
-    requires values { (k : ℕ) → k < count → unsigned_abs (slice_index_or weighed.values.now (weighed.at + (at + k))
-        (pos 0)) ≤ 2 ^ 15 }
-    requires listed { weighed.first + (at + count) ≤ length weighed.weights.now }
-    requires weights { All (λ w. w ≤ 8) weighed.weights.now }
-    requires down { weighed.down ≤ 8 }
-    ensures { AddsPart place (λ k. pos (slice_index weighed.entry.weights.now (weighed.entry.first + (at + k))
-        * weighed.entry.down) *ℤ slice_index_or weighed.entry.values.now (weighed.entry.at + (at + k)) (pos 0)) count
-        sums.old sums.new }
+    requires weighed { AreWeighed weighed (at + count) }
+    ensures { AddsPart place (λ k. weighed_at weighed.entry (at + k)) count sums.old sums.new }
 {
     for k in 0..count {
         sums[place + k] = grown(sums, place + k, weighed, at + k);
@@ -146,15 +120,8 @@ fn add_singly(sums: &mut [i32], place: usize, weighed: Weighed<'_>, at: usize, c
 pub fn add_values(sums: &mut [i32], start: usize, weighed: Weighed<'_>, count: usize)
     requires sums { All (λ v. unsigned_abs v ≤ 2 ^ 23) sums.old }
     requires inside { start + count ≤ length sums.old }
-    requires enough { weighed.at + count ≤ length weighed.values.now }
-    requires values { (k : ℕ) → k < count → unsigned_abs (slice_index_or weighed.values.now (weighed.at + k) (pos 0))
-        ≤ 2 ^ 15 }
-    requires listed { weighed.first + count ≤ length weighed.weights.now }
-    requires weights { All (λ w. w ≤ 8) weighed.weights.now }
-    requires down { weighed.down ≤ 8 }
-    ensures { AddsPart start (λ k. pos (slice_index weighed.entry.weights.now (weighed.entry.first + k)
-        * weighed.entry.down) *ℤ slice_index_or weighed.entry.values.now (weighed.entry.at + k) (pos 0)) count sums.old
-        sums.new }
+    requires weighed { AreWeighed weighed count }
+    ensures { AddsPart start (weighed_at weighed.entry) count sums.old sums.new }
 {
     let eights = count / 8;
     for c in 0..eights {

@@ -8,9 +8,9 @@ ghost use Rattle.dirac_block_table.specs.Tables.{IsBlock};
 ghost use Rattle.dirac_upconvert.specs.HalfSamples.{IsSample};
 ghost use Rattle.dirac_upconvert.specs.Places;
 ghost use Rattle.dirac_upconvert.specs.SubSamples.{rounded};
-ghost use Rattle.dirac_obmc.specs.Compensation.{IsMotion, dc_of, from_one, from_two, moved_sample, predicts};
+ghost use Rattle.dirac_obmc.specs.Compensation.{IsCompensation, component_dc, from_one, from_two, predicts};
 ghost use Rattle.dirac_obmc.specs.Compensation.{second_sample};
-ghost use Rattle.dirac_obmc.specs.Given.{given};
+ghost use Rattle.dirac_obmc.specs.Given.{compensation_of, lent};
 ghost use Rattle.dirac_obmc.specs.OfSamples.{HasDefaultWeights};
 ghost use Rattle.dirac_obmc.specs.Windows.{IsWindow};
 
@@ -72,43 +72,29 @@ pub struct Window {
     pub width: usize,
 }
 
-/// The samples of a reference to which a vector leads from a window, row after row.
-fn moved_rows(motion: &Motion<'_>, up: &UpPlane, vector: Vector, window: Window, out: &mut [i16])
-    requires motion { IsMotion (given motion.now) }
+/// The samples of a reference to which a vector leads from a window, row after row, and 0 where there is none.
+fn moved_rows(
+    motion: &Motion<'_>,
+    reference: Option<&UpPlane>,
+    vector: Vector,
+    window: Window,
+    out: &mut [i16],
+)
+    requires motion { IsCompensation (compensation_of motion.now) }
     requires vector { IsShortVector vector }
     requires window { IsWindow (length out.old) window }
     ensures value { (k : ℕ) → k < length out.old → slice_index_or out.new k (pos 0)
-        ≡ moved_sample (given motion.now) up.now vector (window.x + k % window.width) (window.y + k / window.width) }
+        ≡ second_sample (compensation_of motion.now) (lent reference.entry) vector (window.x + k % window.width)
+        (window.y
+        + k / window.width) }
     ensures samples { All IsSample out.new }
 {
     let precision = motion.prediction.precision;
     let across = position(precision, across_ratio(motion), window.x, vector.x);
     let down = position(precision, down_ratio(motion), window.y, vector.y);
-    up.sub_rows(precision, across, down, window.width, out);
-}
-
-/// The same of the second reference, and 0 where there is none.
-fn second_rows(motion: &Motion<'_>, vector: Vector, window: Window, out: &mut [i16])
-    requires motion { IsMotion (given motion.now) }
-    requires vector { IsShortVector vector }
-    requires window { IsWindow (length out.old) window }
-    ensures value { (k : ℕ) → k < length out.old → slice_index_or out.new k (pos 0)
-        ≡ second_sample (given motion.now) (given motion.now).up2 vector (window.x + k % window.width) (window.y
-        + k / window.width) }
-    ensures samples { All IsSample out.new }
-{
-    match motion.up2 {
-        Some(up) => moved_rows(motion, up, vector, window, out),
-        None => clear(out),
-    }
-}
-
-fn clear(out: &mut [i16])
-    ensures value { (k : ℕ) → k < length out.old → slice_index_or out.new k (pos 0) ≡ pos 0 }
-    ensures samples { All IsSample out.new }
-{
-    for k in 0..out.len() {
-        out[k] = 0;
+    match reference {
+        Some(up) => up.sub_rows(precision, across, down, window.width, out),
+        None => out.fill(0),
     }
 }
 
@@ -311,7 +297,7 @@ fn dc(component: Component, block: &Block) -> i16
     requires y { IsShort block.now.dc_y }
     requires u { IsShort block.now.dc_u }
     requires v { IsShort block.now.dc_v }
-    ensures { result ≡ dc_of component block.now }
+    ensures { result ≡ component_dc component block.now }
 {
     match component {
         Component::Y => short(block.dc_y),
@@ -320,59 +306,29 @@ fn dc(component: Component, block: &Block) -> i16
     }
 }
 
-fn set_all(value: i16, out: &mut [i16])
-    ensures { (k : ℕ) → k < length out.old → slice_index_or out.new k (pos 0) ≡ value }
-{
-    for k in 0..out.len() {
-        out[k] = value;
-    }
-}
-
-/// What a block with the first reference alone predicts; `samples` is room for samples of the reference.
-fn first_values(
+/// What a block with one reference predicts; `samples` is room for samples of the reference.
+fn one_values(
     motion: &Motion<'_>,
+    reference: Option<&UpPlane>,
     vector: Vector,
     window: Window,
     samples: &mut [i16],
     out: &mut [i16],
 )
-    requires motion { IsMotion (given motion.now) }
+    requires motion { IsCompensation (compensation_of motion.now) }
     requires vector { IsShortVector vector }
     requires window { IsWindow (length out.old) window }
     requires len { length samples.old ≡ length out.old }
     ensures { (k : ℕ) → k < length out.old → slice_index_or out.new k (pos 0)
-        ≡ from_one motion.now.prediction.now (moved_sample (given motion.now) motion.now.up1.now vector (window.x
+        ≡ from_one motion.now.prediction.now
+        (second_sample (compensation_of motion.now) (lent reference.entry) vector (window.x
         + k % window.width) (window.y + k / window.width)) }
 {
     if has_default_weights(motion.prediction) {
-        moved_rows(motion, motion.up1, vector, window, out);
+        moved_rows(motion, reference, vector, window, out);
         return;
     }
-    moved_rows(motion, motion.up1, vector, window, samples);
-    weigh_one(motion.prediction, samples, out);
-}
-
-/// What a block with the second reference alone predicts; `samples` is room for samples of the reference.
-fn second_values(
-    motion: &Motion<'_>,
-    vector: Vector,
-    window: Window,
-    samples: &mut [i16],
-    out: &mut [i16],
-)
-    requires motion { IsMotion (given motion.now) }
-    requires vector { IsShortVector vector }
-    requires window { IsWindow (length out.old) window }
-    requires len { length samples.old ≡ length out.old }
-    ensures { (k : ℕ) → k < length out.old → slice_index_or out.new k (pos 0)
-        ≡ from_one motion.now.prediction.now (second_sample (given motion.now) (given motion.now).up2 vector (window.x
-        + k % window.width) (window.y + k / window.width)) }
-{
-    if has_default_weights(motion.prediction) {
-        second_rows(motion, vector, window, out);
-        return;
-    }
-    second_rows(motion, vector, window, samples);
+    moved_rows(motion, reference, vector, window, samples);
     weigh_one(motion.prediction, samples, out);
 }
 
@@ -385,28 +341,28 @@ fn block_values(
     second: &mut [i16],
     out: &mut [i16],
 )
-    requires motion { IsMotion (given motion.now) }
+    requires motion { IsCompensation (compensation_of motion.now) }
     requires block { IsBlock motion.now.blocks.now.refs block.now }
     requires window { IsWindow (length out.old) window }
     requires lens { (length first.old ≡ length out.old) × (length second.old ≡ length out.old) }
     ensures { (k : ℕ) → k < length out.old → slice_index_or out.new k (pos 0)
-        ≡ predicts (given motion.now) block.now (window.x + k % window.width) (window.y + k / window.width) }
+        ≡ predicts (compensation_of motion.now) block.now (window.x + k % window.width) (window.y + k / window.width) }
 {
     if block.ref1 {
         if block.ref2 {
-            moved_rows(motion, motion.up1, block.v1, window, first);
-            second_rows(motion, block.v2, window, second);
+            moved_rows(motion, Some(motion.up1), block.v1, window, first);
+            moved_rows(motion, motion.up2, block.v2, window, second);
             weigh_two(motion.prediction, first, second, out);
             return;
         }
-        first_values(motion, block.v1, window, first, out);
+        one_values(motion, Some(motion.up1), block.v1, window, first, out);
         return;
     }
     if block.ref2 {
-        second_values(motion, block.v2, window, second, out);
+        one_values(motion, motion.up2, block.v2, window, second, out);
         return;
     }
-    set_all(dc(motion.component, block), out);
+    out.fill(dc(motion.component, block));
 }
 
 /// What a block predicts in a window of `count` places, as the front of `out`; `first` and `second` are room for the
@@ -420,14 +376,14 @@ pub fn block_front(
     second: &mut [i16],
     out: &mut [i16],
 )
-    requires motion { IsMotion (given motion.now) }
+    requires motion { IsCompensation (compensation_of motion.now) }
     requires block { IsBlock motion.now.blocks.now.refs block.now }
     requires window { IsWindow count window }
     requires first { count ≤ length first.old }
     requires second { count ≤ length second.old }
     requires out { count ≤ length out.old }
     ensures { (k : ℕ) → k < count → slice_index_or out.new k (pos 0)
-        ≡ predicts (given motion.now) block.now (window.x + k % window.width) (window.y + k / window.width) }
+        ≡ predicts (compensation_of motion.now) block.now (window.x + k % window.width) (window.y + k / window.width) }
 {
     block_values(
         motion,

@@ -1,6 +1,6 @@
 ghost use Rattle.std.specs.Prelude.{◌≡◌, ℕ, ℤ, ◌*◌, ◌/◌, ◌%◌, ◌<◌, ◌≤◌, IfOk, replicate};
 ghost use Rattle.dirac_obmc.specs.Weights.{IsOverlap, share, sum_below, weight_at};
-ghost use Rattle.dirac_obmc.specs.Compensation.{Compensation, IsFlat, IsMotion, blocks_across, blocks_down};
+ghost use Rattle.dirac_obmc.specs.Compensation.{Compensation, IsFlat, IsCompensation, blocks_across, blocks_down};
 ghost use Rattle.dirac_obmc.specs.Compensation.{predicted_at, weight_of};
 ghost use Rattle.dirac_obmc.specs.Directions.{IsWeights};
 
@@ -45,32 +45,6 @@ fn ramp(margin: u32, t: u32) -> u32
         return if t == 0 { 3 } else { 5 };
     }
     1 + (6 * t + margin - 1) / (2 * margin - 1)
-}
-
-/// The weight of a block at a place of its plane, 0 where the block doesn't hold the place.
-#[tactic(auto, unfolding(crate::specs::Weights::share))]
-pub fn share(blocks: Direction, block: u32, place: u32) -> u8
-    requires sizes { IsOverlap blocks.length blocks.separation }
-    requires block { block < blocks.count }
-    requires count { blocks.count ≤ LARGEST_SIDE }
-    requires place { place ≤ LARGEST_SIDE }
-    ensures value { result ≡ Rattle.dirac_obmc.specs.Weights.share block blocks.count blocks.length blocks.separation
-        place }
-    ensures at_most_8 { result ≤ 8 }
-{
-    let place = place + (blocks.length - blocks.separation) / 2;
-    let begin = block * blocks.separation;
-    if begin <= place && place < begin + blocks.length {
-        weight(
-            block,
-            blocks.count,
-            blocks.length,
-            blocks.separation,
-            place - begin,
-        ) as u8
-    } else {
-        0
-    }
 }
 
 /// The weight at a place of the list of all weights, block after block.
@@ -119,12 +93,12 @@ pub fn weights_sum_to_eight()
 
 /// The weights of all blocks at a sample that they cover sum to 64.
 pub fn weights_sum_to_64()
-    ensures { (m : Compensation) → IsMotion m → (x y : ℕ) → x < m.width → y < m.height
+    ensures { (m : Compensation) → IsCompensation m → (x y : ℕ) → x < m.width → y < m.height
         → sum_below (λ j. sum_below (λ i. weight_of m x y j i) (blocks_across m)) (blocks_down m) ≡ 64 }
 {}
 
 /// DC blocks of one value predict that value everywhere.
 pub fn dc_blocks_predict_their_value()
-    ensures { (m : Compensation) (v : ℤ) → IsMotion m → IsFlat m v → (x y : ℕ) → x < m.width → y < m.height
+    ensures { (m : Compensation) (v : ℤ) → IsCompensation m → IsFlat m v → (x y : ℕ) → x < m.width → y < m.height
         → predicted_at m x y ≡ v }
 {}

@@ -4,12 +4,10 @@ ghost use Rattle.std.specs.Thread.{IsSync};
 ghost use Rattle.dirac_io.specs.Faults.{Rose};
 ghost use Rattle.dirac_picture.specs.Reading.{CanBeRead, ReadsThem};
 ghost use Rattle.dirac_content.specs.Content.{rebuilt};
-ghost use Rattle.dirac_decode.specs.Decoded.{IfDone, IfTally, IsDecoded};
+ghost use Rattle.dirac_decode.specs.Decoded.{IfDone, IfTally, IsDecodedStream};
 ghost use Rattle.dirac_content.specs.Leaving.{IsBrokenOff, IsFrontOfRead};
 ghost use Rattle.dirac_rebuild.specs.Rebuilding.{CanBeRebuilt};
 
-use crate::planes::read_planes_rows;
-use crate::rebuild::rebuild_rows;
 use dirac_bits::BitReader;
 use dirac_common::{NoMemory, Picture, RowGate, Stop};
 use dirac_decode::{Decoded, decode_stream_by};
@@ -18,6 +16,7 @@ use dirac_io::{Sink, Source};
 use dirac_picture::{CodedPicture, CodedResidual};
 use dirac_refs::{MOST_REFERENCES, RefBuffer};
 use dirac_sequence_header::Sequence;
+use dirac_slices::{read_planes_rows, rebuild_rows};
 use std::alloc::Global;
 use std::marker::Sync;
 use std::thread::Threads;
@@ -33,7 +32,8 @@ pub fn decode_rows<R: Threads + Sync, S: Source, K: Sink, G: RowGate>(
     gate: &G,
 ) -> Decoded
     requires { (1 ≤ workers) × (workers ≤ 64) }
-    ensures decoded { IfSome (S.held source.old) (λ bytes. IsDecoded bytes result (K.taken out.old) (K.taken out.new)) }
+    ensures decoded { IfSome (S.held source.old)
+        (λ bytes. IsDecodedStream bytes result (K.taken out.old) (K.taken out.new)) }
     // Where a read failed, just what leaves while the units that were read whole are taken was written.
     ensures broken_off { result ≡ Decoded.ReadFault → IfSome (S.held source.old) (λ bytes. IsBrokenOff bytes
         (S.held source.new) (K.taken out.old) (K.taken out.new)) }

@@ -8,7 +8,7 @@ use Rattle.std.proofs.lemmas.Nat.{from_be_bytes-to_be_bytes_4}
 use Rattle.dirac_common.specs.declared.picture.Picture.{Picture}
 use Rattle.dirac_types.specs.declared.settings.Settings.{Settings}
 use Rattle.dirac_sequence.specs.Written.{sequence_of}
-use Rattle.dirac_header.specs.Written.{IsInRange}
+use Rattle.dirac_header.specs.Written.{NumbersHave32Bits}
 use Rattle.dirac_picture.specs.declared.coded.CodedPicture.{CodedPicture}
 use Rattle.dirac_plan.specs.declared.planned.Planned.{Planned}
 use Rattle.dirac_plan.specs.Plan.{plan}
@@ -19,7 +19,7 @@ use Rattle.dirac_encode_laws.specs.Coding.{Job, Made, blank, coded_under, coding
 use Rattle.dirac_encode_laws.specs.Laws.{AreNumbered, JobsAreRead}
 use Rattle.dirac_encode_laws.proofs.Indices.{own_gives, sources_under}
 use Rattle.dirac_encode_laws.proofs.Sourcing.{jobs_read_under, sources_made}
-use Rattle.dirac_edit_laws.specs.Joined.{number_of}
+use Rattle.dirac_edit_laws.specs.Joined.{number_in_payload}
 use Rattle.dirac_edit_laws.proofs.Cutting.{FitsPicture}
 use Rattle.dirac_edit_laws.proofs.EncodedCut.{codes_of, texts_fit_made}
 use Rattle.dirac_edit_laws.proofs.EncodedMade.{coded_append, coded_from, index_up, points_up, refs_behind, texts_made}
@@ -60,7 +60,7 @@ number_at (y ∷ ys) k (suc n) all less = number_at ys (k + 1) n all.1 (omega ar
 moved_is : (d : ℕ) (p : Picture) → p.number + d < 2 ^ 32 → picture_behind d p ≡ picture_onward d p
 moved_is d p small = ap (λ (n : ℕ). let q : Picture = record { number = n; y = p.y; u = p.u; v = p.v } in q) (plus_is d p.number small)
 
-planned_is : (d : ℕ) (q : Planned) → IsInRange (header_behind d (header_of q)) → planned_behind d q ≡ planned_onward d q
+planned_is : (d : ℕ) (q : Planned) → NumbersHave32Bits (header_behind d (header_of q)) → planned_behind d q ≡ planned_onward d q
 planned_is d q range =
     let make : ℕ → Option ℕ → Option ℕ → Option ℕ → Planned = λ n a b c. record { number = n; code = q.code; ref1 = a; ref2 = b; retire = c } in
     ap (λ n. make n (option_map (λ m. m + d) q.ref1) (option_map (λ m. m + d) q.ref2) (option_map (λ m. m + d) q.retire)) (plus_is d q.number range.number)
@@ -96,16 +96,16 @@ can_move (q ∷ qs) t d ys refs index points planned fits =
     let one : CanMove t d (job_of ys q) m = record { fits = fits.0.payload; range = planned.0.range } in
     (one, can_move qs t d ys (refs_after refs m) (suc (index_up index m)) (points_up points m) planned.1 fits.1)
 
-plain_one : (t : Settings) (d : ℕ) (refs : List Picture) (j : Job) → IsInRange (header_behind d (header_of j.planned)) → made_onward d (made t refs j) ≡ made_behind d (made t refs j)
+plain_one : (t : Settings) (d : ℕ) (refs : List Picture) (j : Job) → NumbersHave32Bits (header_behind d (header_of j.planned)) → made_onward d (made t refs j) ≡ made_behind d (made t refs j)
 plain_one t d refs j range =
     let m = made t refs j in
     let c = m.coded in
     let n = c.header.number in
     let plus = plus_is d n range.number in
     let small : n < 2 ^ 32 = omega (arith, range.number) in
-    let number : number_of m.payload ≡ n = ap number_of (payload_begins (sequence_of t) t.blocks t.precision c) ∙ from_be_bytes-to_be_bytes_4 n small in
+    let number : number_in_payload m.payload ≡ n = ap number_in_payload (payload_begins (sequence_of t) t.blocks t.precision c) ∙ from_be_bytes-to_be_bytes_4 n small in
     let make : CodedPicture → ℕ → ℕ → Made = λ x k l. record { coded = x; payload = to_be_bytes w32 k ++ drop 4 m.payload; shown = record { number = l; y = m.shown.y; u = m.shown.u; v = m.shown.v } } in
-    ap (λ (x : CodedPicture). make x (onward d (number_of m.payload)) (onward d m.shown.number)) (sym (coded_is d c range))
+    ap (λ (x : CodedPicture). make x (onward d (number_in_payload m.payload)) (onward d m.shown.number)) (sym (coded_is d c range))
     ∙ ap₂ (λ (k l : ℕ). make (coded_behind d c) k l) (ap (onward d) number ∙ sym plus) (sym plus)
 
 all_plain : (qs : List Planned) (t : Settings) (d : ℕ) (ys refs : List Picture) → AllByRecursion IsPlanned (map (planned_behind d) qs) → map (made_onward d) (coded_from t refs (map (job_of ys) qs)) ≡ map (made_behind d) (coded_from t refs (map (job_of ys) qs))

@@ -11,7 +11,7 @@ use Rattle.dirac_common.specs.Table.{Table}
 use Rattle.dirac_types.specs.declared.settings.Settings.{Settings}
 use Rattle.dirac_sequence.specs.Written.{sequence_of}
 use Rattle.dirac_header.specs.declared.header.PictureHeader.{PictureHeader}
-use Rattle.dirac_header.specs.Written.{IsInRange}
+use Rattle.dirac_header.specs.Written.{NumbersHave32Bits}
 use Rattle.dirac_refs.specs.References.{is_listed}
 use Rattle.dirac_block_table.specs.Tables.{BlockTable}
 use Rattle.dirac_picture.specs.declared.coded.CodedMotion.{CodedMotion}
@@ -22,11 +22,11 @@ use Rattle.dirac_content.specs.Content.{named, plane_of, predicted_among, rebuil
 use Rattle.dirac_plan.specs.declared.planned.Planned.{Planned}
 use Rattle.dirac_plan_laws.specs.Headers.{header_of}
 use Rattle.dirac_motion.specs.Chosen.{blocks_among, chosen}
-use Rattle.dirac_encode_laws.specs.Coded.{bands_of, coded_of, kind_of, left_of, less_prediction, motion_of, residual_of, residual_unless_left_out, transform_of}
+use Rattle.dirac_encode_laws.specs.Coded.{quantised_bands_of, coded_of, kind_of, residual_plane, plane_less_prediction, motion_of, residual_of, residual_unless_left_out, transform_of}
 use Rattle.dirac_encode_laws.specs.Coding.{Job, Made, coded_under, made, refs_after}
 use Rattle.dirac_encode_laws.specs.Laws.{AreMade, IsMade}
 use Rattle.dirac_encode_laws.specs.Payloads.{motion_with, payload_of}
-use Rattle.dirac_edit_laws.specs.Joined.{number_of}
+use Rattle.dirac_edit_laws.specs.Joined.{number_in_payload}
 use Rattle.dirac_edit_laws.specs.Restricted.{IsRestricted}
 use Rattle.dirac_edit_laws.specs.Texts.{PictureText}
 use Rattle.dirac_edit_laws.proofs.Cutting.{Fits}
@@ -85,22 +85,22 @@ plane_onward d p component.U = refl
 plane_onward d p component.V = refl
 
 left_onward : (t : Settings) (d : ℕ) (inside whole : List Picture) (h : PictureHeader) (m : Option CodedMotion) (p : Picture) (c : Component) → Finds d inside whole h
-    → left_of t whole (header_onward d h) m (picture_onward d p) c ≡ left_of t inside h m p c
+    → residual_plane t whole (header_onward d h) m (picture_onward d p) c ≡ residual_plane t inside h m p c
 left_onward t d inside whole h None p c f = plane_onward d p c
 left_onward t d inside whole h (Some m) p c f =
     let s = sequence_of t in
-    ap₂ (λ (a b : Option Picture). less_prediction (plane_of (picture_onward d p) c) (predicted_among s m a b c)) f.first f.second
-    ∙ ap (less_prediction (plane_of (picture_onward d p) c)) (predicted_onward s m d (named inside h.ref1) (named inside h.ref2) c)
-    ∙ ap (λ (x : Table). less_prediction x (predicted_among s m (named inside h.ref1) (named inside h.ref2) c)) (plane_onward d p c)
+    ap₂ (λ (a b : Option Picture). plane_less_prediction (plane_of (picture_onward d p) c) (predicted_among s m a b c)) f.first f.second
+    ∙ ap (plane_less_prediction (plane_of (picture_onward d p) c)) (predicted_onward s m d (named inside h.ref1) (named inside h.ref2) c)
+    ∙ ap (λ (x : Table). plane_less_prediction x (predicted_among s m (named inside h.ref1) (named inside h.ref2) c)) (plane_onward d p c)
 
 residual_onward : (t : Settings) (d : ℕ) (inside whole : List Picture) (h : PictureHeader) (m : Option CodedMotion) (p : Picture) → Finds d inside whole h
     → residual_of t whole (header_onward d h) m (picture_onward d p) ≡ residual_of t inside h m p
 residual_onward t d inside whole h m p f =
-    let make : Table → Table → Table → CodedResidual = λ y u v. record { transform = transform_of t; y = bands_of t (kind_of m) y; u = bands_of t (kind_of m) u; v = bands_of t (kind_of m) v } in
+    let make : Table → Table → Table → CodedResidual = λ y u v. record { transform = transform_of t; y = quantised_bands_of t (kind_of m) y; u = quantised_bands_of t (kind_of m) u; v = quantised_bands_of t (kind_of m) v } in
     let h' = header_onward d h in
     let p' = picture_onward d p in
-    ap (λ y. make y (left_of t whole h' m p' component.U) (left_of t whole h' m p' component.V)) (left_onward t d inside whole h m p component.Y f)
-    ∙ ap₂ (λ (u v : Table). make (left_of t inside h m p component.Y) u v) (left_onward t d inside whole h m p component.U f) (left_onward t d inside whole h m p component.V f)
+    ap (λ y. make y (residual_plane t whole h' m p' component.U) (residual_plane t whole h' m p' component.V)) (left_onward t d inside whole h m p component.Y f)
+    ∙ ap₂ (λ (u v : Table). make (residual_plane t inside h m p component.Y) u v) (left_onward t d inside whole h m p component.U f) (left_onward t d inside whole h m p component.V f)
 
 coded_same : (t : Settings) (d : ℕ) (inside whole : List Picture) (q : Planned) (p : Picture) → Finds d inside whole (header_of q) → coded_of t whole (planned_onward d q) (picture_onward d p) ≡ coded_onward d (coded_of t inside q p)
 coded_same t d inside whole q p f =
@@ -118,23 +118,23 @@ pub option_is : (d : ℕ) (o : Option ℕ) → IfSome (option_map (λ n. n + d) 
 option_is d None small = refl
 option_is d (Some n) small = ap Some (plus_is d n small)
 
-header_is : (d : ℕ) (h : PictureHeader) → IsInRange (header_behind d h) → header_behind d h ≡ header_onward d h
+header_is : (d : ℕ) (h : PictureHeader) → NumbersHave32Bits (header_behind d h) → header_behind d h ≡ header_onward d h
 header_is d h range =
     let make : ℕ → Option ℕ → Option ℕ → Option ℕ → PictureHeader = λ n a b c. record { number = n; ref1 = a; ref2 = b; retire = c } in
     ap (λ n. make n (option_map (λ m. m + d) h.ref1) (option_map (λ m. m + d) h.ref2) (option_map (λ m. m + d) h.retire)) (plus_is d h.number range.number)
     ∙ ap₂ (λ (a b : Option ℕ). make (onward d h.number) a b (option_map (λ m. m + d) h.retire)) (option_is d h.ref1 range.first) (option_is d h.ref2 range.second)
     ∙ ap (make (onward d h.number) (onward_of d h.ref1) (onward_of d h.ref2)) (option_is d h.retire range.retired)
 
-pub coded_is : (d : ℕ) (c : CodedPicture) → IsInRange (header_behind d c.header) → coded_behind d c ≡ coded_onward d c
+pub coded_is : (d : ℕ) (c : CodedPicture) → NumbersHave32Bits (header_behind d c.header) → coded_behind d c ≡ coded_onward d c
 coded_is d c range = ap (λ (h : PictureHeader). let x : CodedPicture = record { code = c.code; header = h; motion = c.motion; residual = c.residual } in x) (header_is d c.header range)
 
-payload_same : (t : Settings) (d : ℕ) (c : CodedPicture) → IsInRange (header_behind d c.header) → payload_of t (coded_onward d c) ≡ payload_onward d (payload_of t c)
+payload_same : (t : Settings) (d : ℕ) (c : CodedPicture) → NumbersHave32Bits (header_behind d c.header) → payload_of t (coded_onward d c) ≡ payload_onward d (payload_of t c)
 payload_same t d c range =
     let s = sequence_of t in
     let n = c.header.number in
     let small : n < 2 ^ 32 = omega (arith, range.number) in
     let begin = payload_begins s t.blocks t.precision c in
-    let number : number_of (payload_of t c) ≡ n = ap number_of begin ∙ from_be_bytes-to_be_bytes_4 n small in
+    let number : number_in_payload (payload_of t c) ≡ n = ap number_in_payload begin ∙ from_be_bytes-to_be_bytes_4 n small in
     ap (payload_of t) (sym (coded_is d c range)) ∙ payloads_keep s t.blocks t.precision d c range
     ∙ ap (λ x. to_be_bytes w32 x ++ drop 4 (payload_of t c)) (plus_is d n range.number ∙ sym (ap (onward d) number))
 
@@ -147,7 +147,7 @@ record IsMadeOnward (t : Settings) (d : ℕ) (inside whole : List Picture) (j : 
   pub below : AreBelow (refs_after inside (made t inside j))
 
 made_same : (t : Settings) (d : ℕ) (inside whole : List Picture) (j : Job) → IsRestricted whole (map (picture_onward d) inside) → length whole ≤ 8 → AreBelow inside → IsMade t inside (made t inside j) → Fits (made t inside j).payload
-    → IsInRange (header_behind d (header_of j.planned)) → IsMadeOnward t d inside whole j
+    → NumbersHave32Bits (header_behind d (header_of j.planned)) → IsMadeOnward t d inside whole j
 made_same t d inside whole j r few below is fits range =
     let s = sequence_of t in
     let m = made t inside j in
@@ -170,7 +170,7 @@ made_same t d inside whole j r few below is fits range =
 -- their payloads fit, and their numbers, moved on, are in range
 pub record CanMove (t : Settings) (d : ℕ) (j : Job) (m : Made) : Type 0 where
   pub fits : Fits m.payload
-  pub range : IsInRange (header_behind d (header_of j.planned))
+  pub range : NumbersHave32Bits (header_behind d (header_of j.planned))
 
 unfoldable pub AllCanMove : Settings → ℕ → List Picture → List Job → Type 0
 AllCanMove t d refs [] = Unit {0}

@@ -28,8 +28,8 @@ use Rattle.dirac_encode_laws.proofs.Showing.{same_header}
 use Rattle.dirac_encode_laws.proofs.Sourcing.{jobs_read_under, sources_made}
 use Rattle.dirac_sources.specs.Sources.{IsSource}
 use Rattle.dirac_edit_laws.specs.Cut.{cut_bytes, is_between, restricted}
-use Rattle.dirac_edit_laws.specs.Joined.{Group, Keyed, bytes_or_bare, first_number, group_of, groups_behind, groups_of, high, joined, keyed_from, low, may_merge, merged, moved_key, new_number, number_of, renumbered, shift, text_of}
-use Rattle.dirac_edit_laws.specs.Texts.{PictureText, SequenceText, picture_text, points_of, points_with, sequences, sequences_from, with_pictures}
+use Rattle.dirac_edit_laws.specs.Joined.{Group, Keyed, bytes_or_bare, first_number, group_of, groups_behind, groups_of, high, joined_sequences, keyed_from, low, may_merge, merged, moved_key, new_number, number_in_payload, renumbered, shift, renumbered_text}
+use Rattle.dirac_edit_laws.specs.Texts.{PictureText, SequenceText, picture_text_at, points_of, points_up_to, sequences, sequences_from, with_pictures}
 use Rattle.dirac_edit_laws.specs.Units.{sequences_bytes}
 use Rattle.dirac_edit_laws.proofs.EncodedCut.{Codes, IsPictureUnit, codes_of, picture_unit, stream_is, stream_text}
 use Rattle.dirac_edit_laws.proofs.EncodedMade.{coded_from, index_up, points_up, text_made, texts_made}
@@ -75,7 +75,7 @@ record ReadsOn (t : SequenceText) (rest : List UnitText) (ts : List SequenceText
 
 unit_one : (t : Settings) (now : SequenceText) (previous index points : ℕ) (u : UnitText) (rest : List UnitText) (b : Bool) → IsPictureUnit u.info.code
     → sequences_from index points (Some now) ((if b then header_text t previous ∷ [] else []) ++ u ∷ rest)
-    ≡ sequences_from (suc (if b then suc index else index)) (points_with points u) (Some (longer now (picture_text (if b then suc index else index) (points_with points u) u))) rest
+    ≡ sequences_from (suc (if b then suc index else index)) (points_up_to points u) (Some (longer now (picture_text_at (if b then suc index else index) (points_up_to points u) u))) rest
 unfolding header_text
 unit_one t now previous index points u rest true is =
     behind_header index points (Some now) (header_text t previous) (u ∷ rest) refl ∙ behind_picture (suc index) points (Some now) u rest is.header is.end is.is
@@ -159,15 +159,15 @@ text_behind by m = record { index = 0; points = 0; code = m.coded.code; payload 
 abbrev keys_of : List Made → List Keyed
 keys_of ms = map (keyed_from 0) (map bare_text ms)
 
-number_front : (m : Made) → m.coded.header.number < 2 ^ 31 → m.payload ≡ to_be_bytes w32 m.coded.header.number ++ drop 4 m.payload → number_of m.payload ≡ m.coded.header.number
-number_front m small is = ap number_of is ∙ from_be_bytes-to_be_bytes_4 m.coded.header.number (omega arith)
+number_front : (m : Made) → m.coded.header.number < 2 ^ 31 → m.payload ≡ to_be_bytes w32 m.coded.header.number ++ drop 4 m.payload → number_in_payload m.payload ≡ m.coded.header.number
+number_front m small is = ap number_in_payload is ∙ from_be_bytes-to_be_bytes_4 m.coded.header.number (omega arith)
 
 key_plain : (n : ℕ) → n < 2 ^ 31 → key_of 0 n ≡ pos n
 key_plain n small =
     let same : (n + 2 ^ 32) % 2 ^ 32 ≡ n = omega arith in
     ap (cast_signed w32) same ∙ to_z_pos w32 n (omega arith)
 
-key_is : (m : Made) → m.coded.header.number < 2 ^ 31 → m.payload ≡ to_be_bytes w32 m.coded.header.number ++ drop 4 m.payload → key_of 0 (number_of m.payload) ≡ pos m.coded.header.number
+key_is : (m : Made) → m.coded.header.number < 2 ^ 31 → m.payload ≡ to_be_bytes w32 m.coded.header.number ++ drop 4 m.payload → key_of 0 (number_in_payload m.payload) ≡ pos m.coded.header.number
 key_is m small is = ap (key_of 0) (number_front m small is) ∙ key_plain m.coded.header.number small
 
 -- bounds of the keys of pictures below a number
@@ -189,7 +189,7 @@ AreFronts ms = AllByRecursion (λ (m : Made). m.payload ≡ to_be_bytes w32 m.co
 keys_bounded : (ms : List Made) (n : ℕ) → 0 < n → n ≤ 2 ^ 31 → AllByRecursion (λ (m : Made). m.coded.header.number < n) ms → AreFronts ms → Keys n (keys_of ms)
 keys_bounded [] n some small below fronts = record { high_most = omega (arith, ints); low_least = omega (arith, ints) }
 keys_bounded (m ∷ ms) n some small below fronts =
-    let key = key_of 0 (number_of m.payload) in
+    let key = key_of 0 (number_in_payload m.payload) in
     let is : key ≡ pos m.coded.header.number = key_is m (omega (arith, below.0)) fronts.0 in
     let rest = keys_bounded ms n some small below.1 fronts.1 in
     let up : m.coded.header.number < n = below.0 in
@@ -204,14 +204,14 @@ keys_bounded (m ∷ ms) n some small below fronts =
     least : (key : ℤ) (k : ℕ) (l : ℤ) → key ≡ pos k → pos 0 ≤ℤ l → pos 0 ≤ℤ int_min key l
     least key k l is rest = omega (arith, ints, int_min_is key l)
 
-key_reached : (ms : List Made) (i : ℕ) (m : Made) → slice_get ms i ≡ Some m → key_of 0 (number_of m.payload) ≤ℤ high (keys_of ms)
+key_reached : (ms : List Made) (i : ℕ) (m : Made) → slice_get ms i ≡ Some m → key_of 0 (number_in_payload m.payload) ≤ℤ high (keys_of ms)
 key_reached [] i m is = absurd cc
 key_reached (x ∷ ms) zero m is =
     let same : x ≡ m = cc in
-    let key = key_of 0 (number_of x.payload) in
-    subst (λ (y : Made). key_of 0 (number_of y.payload) ≤ℤ int_max key (high (keys_of ms))) same (omega (arith, ints, int_max_is key (high (keys_of ms))))
+    let key = key_of 0 (number_in_payload x.payload) in
+    subst (λ (y : Made). key_of 0 (number_in_payload y.payload) ≤ℤ int_max key (high (keys_of ms))) same (omega (arith, ints, int_max_is key (high (keys_of ms))))
 key_reached (x ∷ ms) (suc i) m is =
-    let key = key_of 0 (number_of x.payload) in
+    let key = key_of 0 (number_in_payload x.payload) in
     omega (arith, ints, int_max_is key (high (keys_of ms)), key_reached ms i m is)
 
 -- what holds of an item
@@ -228,7 +228,7 @@ high_is n ms c small =
     let l = c.last in
     let some : 0 < n = c.some in
     let bounds = keys_bounded ms n some small c.below c.fronts in
-    let is : key_of 0 (number_of l.1.payload) ≡ pos (n - 1) =
+    let is : key_of 0 (number_in_payload l.1.payload) ≡ pos (n - 1) =
     key_is l.1 (omega (arith, l.3)) (item_holds (λ (m : Made). m.payload ≡ to_be_bytes w32 m.coded.header.number ++ drop 4 m.payload) ms l.0 l.1 c.fronts l.2) ∙ ap pos l.3 in
     between_is (high (keys_of ms)) (n - 1) bounds.high_most (subst (λ z. z ≤ℤ high (keys_of ms)) is (key_reached ms l.0 l.1 l.2))
 
@@ -309,7 +309,7 @@ moved_texts [] n by small below fronts = refl
 moved_texts (m ∷ ms) n by small below fronts =
     let k = m.coded.header.number in
     let less : k < n = below.0 in
-    let number : new_number 0 (key_of 0 (number_of m.payload) +ℤ pos by) ≡ k + by = ap (λ z. new_number 0 (z +ℤ pos by)) (key_is m (omega arith) fronts.0) ∙ new_is k by (omega arith) in
+    let number : new_number 0 (key_of 0 (number_in_payload m.payload) +ℤ pos by) ≡ k + by = ap (λ z. new_number 0 (z +ℤ pos by)) (key_is m (omega arith) fronts.0) ∙ new_is k by (omega arith) in
     ap₂ (λ (x : ℕ) (l : List PictureText). with_number m x ∷ l) number (moved_texts ms n by small below.1 fronts.1)
 
 own_texts : (ms : List Made) (n : ℕ) → n ≤ 2 ^ 31 → AllByRecursion (λ (m : Made). m.coded.header.number < n) ms → AreFronts ms → map (renumbered 0) (keys_of ms) ≡ map (text_behind 0) ms
@@ -318,7 +318,7 @@ own_texts (m ∷ ms) n small below fronts =
     let k = m.coded.header.number in
     let less : k < n = below.0 in
     let same : (0 + k) % 2 ^ 32 ≡ k + 0 = omega arith in
-    let number : new_number 0 (key_of 0 (number_of m.payload)) ≡ k + 0 = ap (new_number 0) (key_is m (omega arith) fronts.0) ∙ ap (λ x. (0 + x) % 2 ^ 32) (cast_plain k (omega arith)) ∙ same in
+    let number : new_number 0 (key_of 0 (number_in_payload m.payload)) ≡ k + 0 = ap (new_number 0) (key_is m (omega arith) fronts.0) ∙ ap (λ x. (0 + x) % 2 ^ 32) (cast_plain k (omega arith)) ∙ same in
     ap₂ (λ (x : ℕ) (l : List PictureText). with_number m x ∷ l) number (own_texts ms n small below.1 fronts.1)
 
 -- ---- joined
@@ -421,7 +421,7 @@ abbrev one_text : Settings → List PictureText → SequenceText
 one_text t xs = record { header = sequence_payload t; pictures = xs }
 
 all_join : (parts : List (List Made)) (t : Settings) (n : ℕ) (xs : List PictureText) (now : Group) → IsDone t n xs now → AreCoded parts → n + total parts ≤ 2 ^ 31
-    → map text_of (groups_behind now (map (part_group t) parts)) ≡ one_text t (xs ++ all_texts n parts) ∷ []
+    → map renumbered_text (groups_behind now (map (part_group t) parts)) ≡ one_text t (xs ++ all_texts n parts) ∷ []
 unfolding groups_behind
 all_join [] t n xs now d all small =
     ap₂ (λ (h : List ℕ) (f : ℕ). (let x : SequenceText = record { header = h; pictures = map (renumbered f) now.pictures } in x) ∷ []) d.header d.first
@@ -430,7 +430,7 @@ all_join (ms ∷ parts) t n xs now d all small =
     let g = part_group t ms in
     let rest = map (part_group t) parts in
     let j = joins t n xs now ms d all.0 (omega arith) in
-    ap (λ (b : Bool). map text_of (if b then groups_behind (merged now g) rest else now ∷ groups_behind g rest)) j.may
+    ap (λ (b : Bool). map renumbered_text (if b then groups_behind (merged now g) rest else now ∷ groups_behind g rest)) j.may
     ∙ all_join parts t (n + length ms) (xs ++ map (text_behind n) ms) (merged now g) j.done all.1 (omega arith)
     ∙ ap (λ (l : List PictureText). one_text t l ∷ []) (append_assoc xs (map (text_behind n) ms) (all_texts (n + length ms) parts))
 
@@ -442,7 +442,7 @@ some_texts (ms ∷ parts) t all =
     ap (λ (b : Bool). if b then part_text t ms ∷ rest else rest) (lt-ltb 0 (length (map bare_text ms)) (omega (arith, length-map ms bare_text)))
     ∙ ap (λ (l : List SequenceText). part_text t ms ∷ l) (some_texts parts t all.1)
 
-joined_parts : (ms : List Made) (parts : List (List Made)) (t : Settings) → AreCoded (ms ∷ parts) → total (ms ∷ parts) ≤ 2 ^ 31 → joined (map (part_text t) (ms ∷ parts)) ≡ one_text t (all_texts 0 (ms ∷ parts)) ∷ []
+joined_parts : (ms : List Made) (parts : List (List Made)) (t : Settings) → AreCoded (ms ∷ parts) → total (ms ∷ parts) ≤ 2 ^ 31 → joined_sequences (map (part_text t) (ms ∷ parts)) ≡ one_text t (all_texts 0 (ms ∷ parts)) ∷ []
 joined_parts ms parts t all small =
     let k = length ms in
     let few : k ≤ 2 ^ 31 = omega arith in
@@ -453,8 +453,8 @@ joined_parts ms parts t all small =
       top = high_is k ms all.0 few;
       texts = own_texts ms k few all.0.below all.0.fronts;
     } in
-    ap (λ (l : List SequenceText). map text_of (groups_of (map group_of l))) (some_texts (ms ∷ parts) t all)
-    ∙ ap (λ (l : List Group). map text_of (groups_of l)) (groups_are (ms ∷ parts) t all small)
+    ap (λ (l : List SequenceText). map renumbered_text (groups_of (map group_of l))) (some_texts (ms ∷ parts) t all)
+    ∙ ap (λ (l : List Group). map renumbered_text (groups_of l)) (groups_are (ms ∷ parts) t all small)
     ∙ all_join parts t k (map (text_behind 0) ms) (part_group t ms) begin all.1 small
     ∙ ap (λ (n : ℕ). one_text t (map (text_behind 0) ms ++ all_texts n parts) ∷ []) (let same : k ≡ 0 + k = omega arith in same)
 

@@ -11,7 +11,7 @@ use Rattle.dirac_common.specs.declared.codes.TheConstants.{INTRA_REFERENCE}
 use Rattle.dirac_types.specs.declared.settings.Settings.{Settings}
 use Rattle.dirac_plan.specs.declared.planned.Planned.{Planned}
 use Rattle.dirac_plan.specs.Frames.{IsBelow}
-use Rattle.dirac_plan.specs.Plan.{anchor_of, anchor_offset, anchors_behind, between_of, field_of, field_or_first, fields_of, frames_plan, group, group_at, group_count, opening_of, plan, retired_of, retired_of_former, second_of, step}
+use Rattle.dirac_plan.specs.Plan.{anchor_of, anchor_offset, anchors_behind, between_of, field_of, field_or_first, fields_of, frames_plan, group, group_at, group_count, opening_of, plan, retired_of, retired_of_former, second_of_anchor, step}
 use Rattle.dirac_plan.proofs.Items.{none_asked}
 use Rattle.dirac_plan.proofs.Lists.{range_split}
 use Rattle.dirac_plan.proofs.Places.{frames_below}
@@ -40,7 +40,7 @@ behind_anchor : (d number before : ℕ) (second retired : Option ℕ)
 behind_anchor d number before None retired = refl
 behind_anchor d number before (Some second) retired = refl
 
-behind_second : (s : Settings) (first d k : ℕ) → second_of s (first + d) k ≡ option_map (λ n. n + d) (second_of s first k)
+behind_second : (s : Settings) (first d k : ℕ) → second_of_anchor s (first + d) k ≡ option_map (λ n. n + d) (second_of_anchor s first k)
 behind_second s first d k =
     elim (s.references == 2 && nat_le 1 k) as (λ b. (if b then Some (first + d) else None) ≡ option_map (λ n. n + d) (if b then Some first else None)) [
       | true ↦ refl
@@ -91,12 +91,12 @@ behind_step s len first d k none =
     let start : before + d + 1 ≡ before + 1 + d = omega arith in
     let span : after + d - (before + d) - 1 ≡ after - before - 1 = omega arith in
     let make : ℕ → ℕ → Option ℕ → Option ℕ → ℕ → ℕ → List Planned = λ x y second retired z len'. anchor_of y x second retired ∷ map (between_of s.references x y) (range_with_len z len') in
-    let seconds = second_of s (first + d) k in
+    let seconds = second_of_anchor s (first + d) k in
     let retires = retired_of s len (first + d) k in
     ap₂ (λ (x y : ℕ). make x y seconds retires (x + 1) (y - x - 1)) from to
     ∙ ap₂ (λ (z l : ℕ). make (before + d) (after + d) seconds retires z l) start span
     ∙ ap₂ (λ (o r : Option ℕ). make (before + d) (after + d) o r (before + 1 + d) (after - before - 1)) (behind_second s first d k) (behind_retired s len first d k none)
-    ∙ ap₂ (λ (x : Planned) (l : List Planned). x ∷ l) (behind_anchor d after before (second_of s first k) (retired_of s len first k)) (all_between (after - before - 1) d s.references before after (before + 1))
+    ∙ ap₂ (λ (x : Planned) (l : List Planned). x ∷ l) (behind_anchor d after before (second_of_anchor s first k) (retired_of s len first k)) (all_between (after - before - 1) d s.references before after (before + 1))
 
 all_steps : (s : Settings) (len first d n i : ℕ) → s.alike ≡ 0 → flat_map (step s len (first + d)) (range_with_len i n) ≡ map (planned_behind d) (flat_map (step s len first) (range_with_len i n))
 all_steps s len first d zero i none = refl

@@ -4,7 +4,7 @@ use Rattle.std.specs.List.{AllByRecursion, flat_map}
 use Rattle.dirac_common.specs.declared.picture.Picture.{Picture}
 use Rattle.dirac_types.specs.declared.settings.Settings.{Settings}
 use Rattle.dirac_types.specs.Settings.{IsAccepted}
-use Rattle.dirac_units.specs.Cut.{UnitText, start}
+use Rattle.dirac_units.specs.Cut.{UnitText, first_unit_place}
 use Rattle.dirac_units.specs.Writing.{IsReadAsWritten}
 use Rattle.dirac_sequence.specs.Written.{sequence_payload}
 use Rattle.dirac_units.proofs.Cuts.{one_cut}
@@ -13,7 +13,7 @@ use Rattle.dirac_plan.specs.Plan.{plan}
 use Rattle.dirac_plan_laws.specs.Plans.{PlansCanBeCoded}
 use Rattle.dirac_plan_laws.proofs.Each.{each_append}
 use Rattle.dirac_content.specs.Shown.{Outcome, outcome}
-use Rattle.dirac_content.specs.StreamState.{begun}
+use Rattle.dirac_content.specs.StreamState.{stream_begun}
 use Rattle.dirac_encode_laws.specs.Coding.{Made, coding, own_index, reconstructions, refs_after}
 use Rattle.dirac_encode_laws.specs.Laws.{AreMade, AreSources, JobsAreRead, SourcesShowReconstructions}
 use Rattle.dirac_encode_laws.specs.Stream.{IsUnit, StreamsAreCut, closing, end_info, end_unit, header_before, header_unit, last_length, length_before, picture_length, picture_unit, stream_from, stream_of, stream_units, unit, units_in, units_of}
@@ -83,9 +83,9 @@ is_faultless plans law cuts shows t ps is =
     let fits = texts_fit_made t ps [] (plan (length ps) t) 0 0 is.short codes in
     let cut = cuts t ms (each_unit ms t [] made) in
     let s = shows t ps is in
-    let same = one_cut start (stream_of t ps) s.1.units (units_in t ms) s.1.end None s.1.cut cut in
-    let out : outcome begun start (units_in t ms) None ≡ s.0 =
-    sym (ap (λ us. outcome begun start us None) same.0) ∙ sym (ap (λ e. outcome begun start s.1.units e) same.1) ∙ s.1.same in
+    let same = one_cut first_unit_place (stream_of t ps) s.1.units (units_in t ms) s.1.end None s.1.cut cut in
+    let out : outcome stream_begun first_unit_place (units_in t ms) None ≡ s.0 =
+    sym (ap (λ us. outcome stream_begun first_unit_place us None) same.0) ∙ sym (ap (λ e. outcome stream_begun first_unit_place s.1.units e) same.1) ∙ s.1.same in
     record {
       faultless = record {
         below = each_append (λ b. b < 2 ^ 8) (units_of t 0 ms) (closing t ms) (units_below ms t 0 0 0 fits) (closing_below t ms);

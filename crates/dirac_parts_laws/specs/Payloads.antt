@@ -3,7 +3,7 @@ use Rattle.std.specs.Prelude.{◌≡◌, ℕ, ◌+◌, ◌++◌, drop, option_ma
 use Rattle.std.specs.Int.{to_be_bytes, w32}
 use Rattle.dirac_sequence_header.specs.declared.sequence.Sequence.{Sequence}
 use Rattle.dirac_header.specs.declared.header.PictureHeader.{PictureHeader}
-use Rattle.dirac_header.specs.Written.{IsInRange}
+use Rattle.dirac_header.specs.Written.{NumbersHave32Bits}
 use Rattle.dirac_picture.specs.declared.coded.CodedPicture.{CodedPicture}
 use Rattle.dirac_picture.specs.Written.{payload_by}
 
@@ -24,6 +24,6 @@ coded_behind by c =
 -- its payload has another number in its first four bytes, and is else the same
 abbrev pub PayloadsKeepAllButNumbers : Type 0
 PayloadsKeepAllButNumbers =
-    (s : Sequence) (index precision by : ℕ) (c : CodedPicture) → IsInRange (header_behind by c.header)
+    (s : Sequence) (index precision by : ℕ) (c : CodedPicture) → NumbersHave32Bits (header_behind by c.header)
     → payload_by s index precision (coded_behind by c)
     ≡ to_be_bytes w32 (c.header.number + by) ++ drop 4 (payload_by s index precision c)

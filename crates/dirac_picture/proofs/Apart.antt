@@ -16,7 +16,7 @@ use Rattle.dirac_header.specs.declared.transform.Transform.{Transform}
 use Rattle.dirac_header.specs.Written.{transform_bits}
 use Rattle.dirac_coeffs.specs.declared.layout.BandLayout.{BandLayout}
 use Rattle.dirac_coeffs.specs.declared.layout.CodedBand.{CodedBand}
-use Rattle.dirac_coeffs.specs.Written.{block_of, is_zero_band, with_band, with_block}
+use Rattle.dirac_coeffs.specs.Written.{block_of, is_zero_band, with_band, with_band_block}
 use Rattle.dirac_picture.specs.declared.coded.CodedResidual.{CodedResidual}
 use Rattle.dirac_picture.specs.Bands.{bands_of, layout_of, parent_values}
 use Rattle.dirac_picture.specs.Fits.{AreBandsOf, IsLayout, IsPlaneSize}
@@ -24,7 +24,7 @@ use Rattle.dirac_picture.proofs.Chroma.{part_size}
 use Rattle.dirac_picture.proofs.Lawful.{layout_lawful}
 use Rattle.dirac_picture.specs.declared.texts.Texts.{Texts}
 use Rattle.dirac_picture.proofs.Taken.{listed_at, taken_more}
-use Rattle.dirac_picture.specs.Texts.{AreTexts, IsBandText, joined, text_before, text_of}
+use Rattle.dirac_picture.specs.Texts.{AreTexts, IsBandText, with_all_planes, text_before, text_of_plane}
 use Rattle.dirac_picture.specs.Writable.{AreWritable, IsWritten}
 use Rattle.dirac_picture.specs.Written.{with_bands, with_plane, with_planes, with_residual}
 
@@ -59,7 +59,7 @@ bytes_after old new bytes whole e =
 
 -- ---- bands behind whole bytes
 
-block_behind : (index : ℕ) (block : List ℕ) (old bits : List Bool) → IsWhole old → with_block index block (old ++ bits) ≡ old ++ with_block index block bits
+block_behind : (index : ℕ) (block : List ℕ) (old bits : List Bool) → IsWhole old → with_band_block index block (old ++ bits) ≡ old ++ with_band_block index block bits
 block_behind index block old bits whole =
     let fields : List Bool = (bits ++ uint (length block)) ++ uint index in
     let parts : ((old ++ bits) ++ uint (length block)) ++ uint index ≡ old ++ fields =
@@ -67,9 +67,9 @@ block_behind index block old bits whole =
     ap (λ l. up_to_byte l ++ bits_of block) parts ∙ ap (λ l. l ++ bits_of block) (up_behind old fields whole) ∙ append_assoc old (up_to_byte fields) (bits_of block)
 
 either_behind : (b : Bool) (index : ℕ) (block : List ℕ) (old bits : List Bool) → IsWhole old
-    → (if b then up_to_byte (old ++ bits) ++ uint 0 else with_block index block (up_to_byte (old ++ bits))) ≡ old ++ (if b then up_to_byte bits ++ uint 0 else with_block index block (up_to_byte bits))
+    → (if b then up_to_byte (old ++ bits) ++ uint 0 else with_band_block index block (up_to_byte (old ++ bits))) ≡ old ++ (if b then up_to_byte bits ++ uint 0 else with_band_block index block (up_to_byte bits))
 either_behind true index block old bits whole = ap (λ l. l ++ uint 0) (up_behind old bits whole) ∙ append_assoc old (up_to_byte bits) (uint 0)
-either_behind false index block old bits whole = ap (with_block index block) (up_behind old bits whole) ∙ block_behind index block old (up_to_byte bits) whole
+either_behind false index block old bits whole = ap (with_band_block index block) (up_behind old bits whole) ∙ block_behind index block old (up_to_byte bits) whole
 
 band_behind : (layout : BandLayout) (parent : List ℤ) (b : CodedBand) (old bits : List Bool) → IsWhole old → with_band layout parent b (old ++ bits) ≡ old ++ with_band layout parent b bits
 band_behind layout parent b old bits whole = either_behind (is_zero_band b.table.values) b.index (block_of layout parent b.index b.table.values b.indices) old bits whole
@@ -84,7 +84,7 @@ bands_behind t width height before (b ∷ bands) old bits whole =
 -- a band begins at a byte
 band_from_byte : (layout : BandLayout) (parent : List ℤ) (b : CodedBand) (bits : List Bool) → with_band layout parent b (up_to_byte bits) ≡ with_band layout parent b bits
 band_from_byte layout parent b bits =
-    ap (λ l. if is_zero_band b.table.values then l ++ uint 0 else with_block b.index (block_of layout parent b.index b.table.values b.indices) l) (up_twice bits)
+    ap (λ l. if is_zero_band b.table.values then l ++ uint 0 else with_band_block b.index (block_of layout parent b.index b.table.values b.indices) l) (up_twice bits)
 
 bands_from_byte : (t : Transform) (width height : ℕ) (bands : List CodedBand) (bits : List Bool) → 0 < length bands → with_plane t width height bands (up_to_byte bits) ≡ with_plane t width height bands bits
 bands_from_byte t width height [] bits some = absurd (omega arith)
@@ -147,12 +147,12 @@ all_text t width height bands n all = ap (λ (l : List CodedBand). up_to_byte (w
 some_bands : (t : Transform) (width height : ℕ) (bands : List CodedBand) → AreBandsOf t width height bands → 0 < length bands
 some_bands t width height bands is = omega (arith, is.count)
 
-with_text : (s : Sequence) (r : CodedResidual) (o : Component) (bits before text : List Bool) → 0 < length (bands_of r o) → up_to_byte bits ≡ before → text ≡ text_of s r o
+with_text : (s : Sequence) (r : CodedResidual) (o : Component) (bits before text : List Bool) → 0 < length (bands_of r o) → up_to_byte bits ≡ before → text ≡ text_of_plane s r o
     → up_to_byte (with_plane r.transform (plane_width s o) (plane_height s o) (bands_of r o) bits) ≡ before ++ text
 with_text s r o bits before text some e f =
     plane_apart r.transform (plane_width s o) (plane_height s o) (bands_of r o) bits some ∙ ap₂ (λ (a b : List Bool). a ++ b) e (sym f)
 
-planes_apart : (s : Sequence) (r : CodedResidual) (x : Texts) (bits : List Bool) → IsWritten s r → AreTexts s r x → up_to_byte (with_planes s r bits) ≡ joined bits (bits_of x.y.items) (bits_of x.u.items) (bits_of x.v.items)
+planes_apart : (s : Sequence) (r : CodedResidual) (x : Texts) (bits : List Bool) → IsWritten s r → AreTexts s r x → up_to_byte (with_planes s r bits) ≡ with_all_planes bits (bits_of x.y.items) (bits_of x.u.items) (bits_of x.v.items)
 planes_apart s r x bits is texts =
     let t = r.transform in
     let luma = with_plane t (plane_width s component.Y) (plane_height s component.Y) r.y bits in
@@ -164,7 +164,7 @@ planes_apart s r x bits is texts =
     with_text s r component.V both u (bits_of x.v.items) (some_bands t _ _ r.v is.lawful.v) after_u texts.v
 
 pub residual_apart : (s : Sequence) (r : CodedResidual) (x : Texts) (old mid new : List Bool) → IsWritten s r → AreTexts s r x → mid ≡ old ++ transform_bits r.transform
-    → new ≡ joined mid (bits_of x.y.items) (bits_of x.u.items) (bits_of x.v.items) → new ≡ up_to_byte (with_residual s r old)
+    → new ≡ with_all_planes mid (bits_of x.y.items) (bits_of x.u.items) (bits_of x.v.items) → new ≡ up_to_byte (with_residual s r old)
 residual_apart s r x old mid new is texts e f =
     f ∙ sym (planes_apart s r x mid is texts) ∙ ap (λ l. up_to_byte (with_planes s r l)) e
 

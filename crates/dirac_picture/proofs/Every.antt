@@ -6,9 +6,9 @@ use Rattle.dirac_common.specs.declared.faults.Cause.{Cause}
 use Rattle.dirac_common.specs.declared.faults.Refusal.{Refusal}
 use Rattle.dirac_common.specs.Chain.{◌>>=◌ as ◌>>◌}
 use Rattle.dirac_bits.specs.Cursor.{Cursor, place, aligned}
-use Rattle.dirac_bits.specs.Fields.{flag_at, uint_at, sint_at, literal_at, block_at}
+use Rattle.dirac_bits.specs.Fields.{flag_at, uint_at, sint_at, literal_at, block_read_at}
 use Rattle.dirac_bits.proofs.Passing.{same_answer}
-use Rattle.dirac_bits.specs.Syntax.{Syntax, done, flag_then, uint_then, sint_then, literal_then, block_then, align_then, here_then, refuse, ◌>>=◌, read, field, between}
+use Rattle.dirac_bits.specs.Syntax.{Syntax, done, flag_then, uint_then, sint_then, literal_then, block_then, align_then, here_then, refuse, ◌>>=◌, read, number_field, between}
 
 -- each value that the fields can have
 abbrev pub Every : {A : Type 0} → (A → Type 0) → Syntax A → Type 0
@@ -34,7 +34,7 @@ every_read P (flag_then f) c d x e is = after_ok (flag_at c) (λ b. read (f b.0)
 every_read P (uint_then f) c d x e is = after_ok (uint_at c) (λ n. read (f n.0) n.1) (x, d) (P x) (λ n more. every_read P (f n.0) n.1 d x (e n.0) more) is
 every_read P (sint_then f) c d x e is = after_ok (sint_at c) (λ z. read (f z.0) z.1) (x, d) (P x) (λ z more. every_read P (f z.0) z.1 d x (e z.0) more) is
 every_read P (literal_then f) c d x e is = after_ok (literal_at c) (λ n. read (f n.0) n.1) (x, d) (P x) (λ n more. every_read P (f n.0) n.1 d x (e n.0) more) is
-every_read P (block_then len f) c d x e is = after_ok (block_at len c) (λ b. read (f b.0) b.1) (x, d) (P x) (λ b more. every_read P (f b.0) b.1 d x (e b.0) more) is
+every_read P (block_then len f) c d x e is = after_ok (block_read_at len c) (λ b. read (f b.0) b.1) (x, d) (P x) (λ b more. every_read P (f b.0) b.1 d x (e b.0) more) is
 every_read P (align_then s) c d x e is = every_read P s (aligned c) d x e is
 every_read P (here_then f) c d x e is = every_read P (f (place c)) c d x (e (place c)) is
 every_read P (refuse at cause) c d x e is = absurd cc
@@ -69,7 +69,7 @@ every_allowed P n at cause true k = k refl
 every_allowed P n at cause false k = tt
 
 -- a number from one to another is in between
-pub every_field : (cause : Cause) (low high : ℕ) → Every (λ n. (low ≤ n) × (n ≤ high)) (field cause (between low high))
+pub every_field : (cause : Cause) (low high : ℕ) → Every (λ n. (low ≤ n) × (n ≤ high)) (number_field cause (between low high))
 every_field cause low high = λ at n.
     every_allowed (λ m. (low ≤ m) × (m ≤ high)) n at cause (between low high n) (λ yes.
     let parts = and_parts (nat_le low n) (nat_le n high) yes in (leb-true low n parts.0, leb-true n high parts.1))

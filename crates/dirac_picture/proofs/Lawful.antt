@@ -5,7 +5,7 @@ use Rattle.std.proofs.lemmas.Option.{slice_get_within, get_or_from_slice_get, sl
 use Rattle.std.proofs.lemmas.List.{get_or-replicate, length-replicate}
 use Rattle.dirac_common.specs.declared.faults.Cause.TheVariants.{Wavelet, Depth, Codeblocks, CodeblockMode}
 use Rattle.dirac_bits.specs.Cursor.{Cursor}
-use Rattle.dirac_bits.specs.Syntax.{read, done, field, between, ◌>>=◌}
+use Rattle.dirac_bits.specs.Syntax.{read, done, number_field, between, ◌>>=◌}
 use Rattle.dirac_bands.specs.Geometry.{band_length}
 use Rattle.dirac_header.specs.declared.header.PictureHeader.{PictureHeader}
 use Rattle.dirac_header.specs.declared.transform.Partition.{Partition}
@@ -41,11 +41,11 @@ levels_more width height depth before counts all one level pair is =
 every_level : (width height depth level : ℕ) → Every (IsLevel width height depth level) (level_counts width height depth level)
 unfolding level_counts
 every_level width height depth level =
-    every_then (λ n. IsCount n (band_length width depth level)) (IsLevel width height depth level) (field Codeblocks (between 1 (band_length width depth level)))
-    (λ across. field Codeblocks (between 1 (band_length height depth level)) >>= λ down. done (across, down))
+    every_then (λ n. IsCount n (band_length width depth level)) (IsLevel width height depth level) (number_field Codeblocks (between 1 (band_length width depth level)))
+    (λ across. number_field Codeblocks (between 1 (band_length height depth level)) >>= λ down. done (across, down))
     (every_field Codeblocks 1 (band_length width depth level))
     (λ across wide.
-    every_then (λ n. IsCount n (band_length height depth level)) (IsLevel width height depth level) (field Codeblocks (between 1 (band_length height depth level)))
+    every_then (λ n. IsCount n (band_length height depth level)) (IsLevel width height depth level) (number_field Codeblocks (between 1 (band_length height depth level)))
     (λ down. done (across, down)) (every_field Codeblocks 1 (band_length height depth level)) (λ down high. (wide, high)))
 
 every_levels : (width height depth : ℕ) (before : List (ℕ × ℕ)) (more : ℕ) → AreLevels width height depth before
@@ -72,9 +72,9 @@ every_parted : (width height depth : ℕ) → Every (HasLevels width height dept
 unfolding partition
 every_parted width height depth =
     every_then (AreLevels width height depth) (HasLevels width height depth) (counts_behind width height depth [] (depth + 1))
-    (λ counts. field CodeblockMode (between 0 1) >>= λ mode. done (parted counts mode)) (every_levels width height depth [] (depth + 1) (no_levels width height depth))
+    (λ counts. number_field CodeblockMode (between 0 1) >>= λ mode. done (parted counts mode)) (every_levels width height depth [] (depth + 1) (no_levels width height depth))
     (λ counts all.
-    every_then (λ n. (0 ≤ n) × (n ≤ 1)) (HasLevels width height depth) (field CodeblockMode (between 0 1)) (λ mode. done (parted counts mode)) (every_field CodeblockMode 0 1) (λ mode _. all))
+    every_then (λ n. (0 ≤ n) × (n ≤ 1)) (HasLevels width height depth) (number_field CodeblockMode (between 0 1)) (λ mode. done (parted counts mode)) (every_field CodeblockMode 0 1) (λ mode _. all))
 
 below_one_more : (n m : ℕ) → n < m + 1 → n ≤ m
 below_one_more n m h = omega arith
@@ -106,11 +106,11 @@ every_transform : (width height : ℕ) → 1 ≤ width → 1 ≤ height → Ever
 unfolding transform
 every_transform width height wide high =
     let P : Transform → Type 0 = λ t. AreLevels width height t.depth t.counts in
-    every_then (λ n. (0 ≤ n) × (n ≤ 6)) P (field Wavelet (between 0 6))
-    (λ wavelet. field Depth (between 1 5) >>= λ depth. codeblocks width height depth >>= λ blocks. done (parameters wavelet depth blocks))
+    every_then (λ n. (0 ≤ n) × (n ≤ 6)) P (number_field Wavelet (between 0 6))
+    (λ wavelet. number_field Depth (between 1 5) >>= λ depth. codeblocks width height depth >>= λ blocks. done (parameters wavelet depth blocks))
     (every_field Wavelet 0 6)
     (λ wavelet _.
-    every_then (λ n. (1 ≤ n) × (n ≤ 5)) P (field Depth (between 1 5))
+    every_then (λ n. (1 ≤ n) × (n ≤ 5)) P (number_field Depth (between 1 5))
     (λ depth. codeblocks width height depth >>= λ blocks. done (parameters wavelet depth blocks))
     (every_field Depth 1 5)
     (λ depth some.

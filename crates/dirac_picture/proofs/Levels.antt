@@ -8,7 +8,7 @@ use Rattle.dirac_coeffs.specs.declared.layout.CodedBand.{CodedBand}
 use Rattle.dirac_coeffs.specs.Grammar.{IsCodedBand}
 use Rattle.dirac_coeffs.specs.Sites.{Found, band_at}
 use Rattle.dirac_picture.specs.Bands.{layout_of, values_among}
-use Rattle.dirac_picture.specs.Chains.{chain_length, values_before, AreLawful, IsChain}
+use Rattle.dirac_picture.specs.Chains.{chain_length, values_before, AreBandsOfOrientation, IsChain}
 use Rattle.dirac_picture.proofs.Lengths.{parent_length}
 use Rattle.dirac_picture.proofs.Listed.{last_or_before}
 
@@ -36,7 +36,7 @@ next_twice t width height first k b some inside is =
 
 -- bands that are what their places ask for, with one more
 pub lawful_more : (t : Transform) (width height first k : ℕ) (bands new : List CodedBand) (b : CodedBand) → length bands ≡ k → new ≡ bands ++ b ∷ []
-    → IsCodedBand (layout_of t width height (first + 3 * k)) b → AreLawful t width height first bands → AreLawful t width height first new
+    → IsCodedBand (layout_of t width height (first + 3 * k)) b → AreBandsOfOrientation t width height first bands → AreBandsOfOrientation t width height first new
 lawful_more t width height first k bands new b count e one all j a isa =
     elim (last_or_before bands b j a (ap (λ (l : List CodedBand). slice_get l j) (sym e) ∙ isa)) [
       | inl before ↦ all j a before

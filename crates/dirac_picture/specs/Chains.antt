@@ -16,7 +16,7 @@ use Rattle.dirac_coeffs.specs.Sites.{Found, site, band_at}
 use Rattle.dirac_picture.specs.declared.sites.FoundPlanes.{FoundPlanes}
 use Rattle.dirac_picture.specs.Bands.{band_count, layout_of, values_among}
 use Rattle.dirac_picture.specs.Fits.{AreBandsOf}
-use Rattle.dirac_picture.specs.Grammar.{plane_bands}
+use Rattle.dirac_picture.specs.Grammar.{subbands_of_plane}
 
 -- the blocks of bands that stand one behind another, from the first place to the second
 abbrev pub AreSites : Cursor → List (Option Found) → Cursor → Type 0
@@ -74,8 +74,8 @@ IsChain t width height sites first bands =
     → band_at (layout_of t width height (first + 3 * k)) (values_before bands k) x ≡ Ok b
 
 -- bands of one orientation, each of which is what its place asks for
-abbrev pub AreLawful : Transform → ℕ → ℕ → ℕ → List CodedBand → Type 0
-AreLawful t width height first bands =
+abbrev pub AreBandsOfOrientation : Transform → ℕ → ℕ → ℕ → List CodedBand → Type 0
+AreBandsOfOrientation t width height first bands =
     (k : ℕ) (b : CodedBand) → slice_get bands k ≡ Some b → IsCodedBand (layout_of t width height (first + 3 * k)) b
 
 -- how many bands an orientation has; LL, which is the first, has one
@@ -88,10 +88,10 @@ pub record IsWholeChain (t : Transform) (width height : ℕ) (sites : List (Opti
     (bands : List CodedBand) : Type 0 where
   pub count : length bands ≡ chain_length t first
   pub read : IsChain t width height sites first bands
-  pub lawful : AreLawful t width height first bands
+  pub lawful : AreBandsOfOrientation t width height first bands
 
 -- a band of an orientation is refused behind those before it, which are read
-pub record IsRefused (t : Transform) (width height : ℕ) (sites : List (Option Found)) (first : ℕ) : Type 0 where
+pub record IsBandRefused (t : Transform) (width height : ℕ) (sites : List (Option Found)) (first : ℕ) : Type 0 where
   pub before : List CodedBand
   pub block : Option Found
   pub refusal : Refusal
@@ -111,7 +111,7 @@ woven (a ∷ hl) (b ∷ lh) (c ∷ hh) = a ∷ b ∷ c ∷ woven hl lh hh
 -- a plane of this size whose blocks stand from one place to another is read as these bands
 abbrev pub ReadsPlane : Transform → ℕ → ℕ → List (Option Found) → List CodedBand → Type 0
 ReadsPlane t width height sites bands =
-    (c d : Cursor) → AreSites c sites d → read (plane_bands t width height) c ≡ Ok (bands, d)
+    (c d : Cursor) → AreSites c sites d → read (subbands_of_plane t width height) c ≡ Ok (bands, d)
 
 -- the chains of a plane are read as its bands are
 abbrev pub PlanesAreReadByChains : Type 0

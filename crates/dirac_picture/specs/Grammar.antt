@@ -32,20 +32,20 @@ bands_behind t width height before (suc more) = do
   bands_behind t width height (before ++ b ∷ []) more
 
 -- all bands of a plane of this size
-abbrev pub plane_bands : Transform → ℕ → ℕ → Syntax (List CodedBand)
-plane_bands t width height = bands_behind t width height [] (band_count t.depth)
+abbrev pub subbands_of_plane : Transform → ℕ → ℕ → Syntax (List CodedBand)
+subbands_of_plane t width height = bands_behind t width height [] (band_count t.depth)
 
 -- the bands of Y, U and V, with these transform parameters
 unfoldable pub planes : Sequence → Transform → Syntax CodedResidual
 planes s t = do
-  y ← plane_bands t s.width (picture_height s)
-  u ← plane_bands t (chroma_width s) (chroma_height s)
-  v ← plane_bands t (chroma_width s) (chroma_height s)
+  y ← subbands_of_plane t s.width (picture_height s)
+  u ← subbands_of_plane t (chroma_width s) (chroma_height s)
+  v ← subbands_of_plane t (chroma_width s) (chroma_height s)
   done (record { transform = t; y = y; u = u; v = v })
 
 -- the transform parameters and the bands
-unfoldable pub residual : Sequence → Syntax CodedResidual
-residual s = do
+unfoldable pub residual_fields : Sequence → Syntax CodedResidual
+residual_fields s = do
   t ← transform s.width (picture_height s)
   planes s t
 
@@ -76,7 +76,7 @@ zero_residual code = if is_intra code then done false else flag
 
 -- the residual, where it isn't 0
 unfoldable pub residual_unless : Bool → Sequence → Syntax (Option CodedResidual)
-residual_unless none s = if none then done None else (residual s >>= λ r. done (Some r))
+residual_unless none s = if none then done None else (residual_fields s >>= λ r. done (Some r))
 
 -- the fields behind the header
 unfoldable pub body : ℕ → Sequence → PictureHeader → Syntax CodedPicture

@@ -3,7 +3,7 @@ use Rattle.std.specs.Prelude.{◌≡◌, ℕ, List, true, Some, slice_get}
 use Rattle.dirac_sequence_header.specs.declared.sequence.Sequence.{Sequence}
 use Rattle.dirac_sequence_header.specs.Sizes.{chroma_height, chroma_width, picture_height}
 use Rattle.dirac_header.specs.declared.transform.Transform.{Transform}
-use Rattle.dirac_header.specs.Written.{FitFrom, IsTransform}
+use Rattle.dirac_header.specs.Written.{FitFrom, IsWritableTransform}
 use Rattle.dirac_coeffs.specs.declared.layout.BandLayout.{BandLayout}
 use Rattle.dirac_coeffs.specs.declared.layout.CodedBand.{CodedBand}
 use Rattle.dirac_coeffs.specs.Indices.{all_equal}
@@ -26,7 +26,7 @@ AreWritable t width height bands =
 -- a residual of this sequence whose bands can be written
 pub record IsWritten (s : Sequence) (r : CodedResidual) : Type 0 where
   pub lawful : IsResidual s r
-  pub transform : IsTransform r.transform
+  pub transform : IsWritableTransform r.transform
   pub fits : FitFrom s.width (picture_height s) r.transform.depth 0 r.transform.counts
   pub y : AreWritable r.transform s.width (picture_height s) r.y
   pub u : AreWritable r.transform (chroma_width s) (chroma_height s) r.u

@@ -4,7 +4,8 @@ ghost use Rattle.dirac_coeffs.specs.Answers.{GivesOrStops};
 ghost use Rattle.dirac_coeffs.specs.Grammar.{IsCodedBand};
 ghost use Rattle.dirac_coeffs.specs.Sites.{band_at};
 ghost use Rattle.dirac_picture.specs.Bands.{layout_of};
-ghost use Rattle.dirac_picture.specs.Chains.{chain_length, values_before, AreLawful, AreWhole, IsRefused, IsWholeChain};
+ghost use Rattle.dirac_picture.specs.Chains.{chain_length, values_before, AreBandsOfOrientation, AreWhole};
+ghost use Rattle.dirac_picture.specs.Chains.{IsBandRefused, IsWholeChain};
 ghost use Rattle.dirac_picture.specs.Fits.{IsLayout, IsPlaneSize};
 
 use crate::layouts::layout;
@@ -61,7 +62,7 @@ fn read_next(
     requires index { IfSome site.now (λ s. IsIndex s.index) }
     requires inside { first + 3 * length before.now ≤ 3 * transform.now.depth }
     requires first { (first ≤ 3) × (first ≡ 0 → length before.now ≡ 0) }
-    requires before { AreLawful transform.now size.width size.height first before.now }
+    requires before { AreBandsOfOrientation transform.now size.width size.height first before.now }
     ensures value { GivesOrStops result (band_at (layout_of transform.now size.width size.height
         (first + 3 * length before.now)) (values_before before.now (length before.now)) site.now) }
     ensures lawful { IfOk result (IsCodedBand (layout_of transform.now size.width size.height
@@ -101,7 +102,7 @@ pub fn read_chain(
     requires whole { AreWhole transform.now sites.now }
     requires first { first ≤ 3 }
     ensures whole { IfOk result (λ r. IfSome r (IsWholeChain transform.now size.width size.height sites.now first)) }
-    ensures none { result ≡ Ok None → IsRefused transform.now size.width size.height sites.now first }
+    ensures none { result ≡ Ok None → IsBandRefused transform.now size.width size.height sites.now first }
 {
     let mut bands = Vec::new(alloc);
     'levels: for k in 0..length_of(transform, first) {

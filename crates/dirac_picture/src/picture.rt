@@ -1,6 +1,6 @@
 ghost use Rattle.std.specs.Prelude.{◌≡◌, length, IfOk, IfErr, IsTrue, Ok, true, false, ◌≤◌};
 ghost use Rattle.dirac_bits.specs.Laws.{StartsWith};
-ghost use Rattle.dirac_bits.specs.Answers.{Reads, ReadsOrStops, IsEarly};
+ghost use Rattle.dirac_bits.specs.Answers.{ReadsSeenBy, ReadsOrStops, IsEarly};
 ghost use Rattle.dirac_bits.specs.Syntax.{read};
 ghost use Rattle.dirac_sequence_header.specs.Lawful.{IsSequence};
 ghost use Rattle.dirac_sequence_header.specs.Sizes.{chroma_height, chroma_width, picture_height};
@@ -149,7 +149,7 @@ fn read_body<
 /// Reads whether the residual is 0, which an inter picture says.
 #[tactic(auto, unfolding(crate::specs::Grammar::zero_residual))]
 fn read_zero_residual(r: &mut BitReader<'_>, code: u8) -> Result<bool, Refusal>
-    ensures value { Reads (λ b. b) result r.new (read (grammar.zero_residual code) r.old) }
+    ensures value { ReadsSeenBy (λ b. b) result r.new (read (grammar.zero_residual code) r.old) }
     ensures place_inside { IfErr result (λ e. e.at ≤ length r.old.bytes) }
     ensures kept { r.new.bytes ≡ r.old.bytes }
     ensures inter { IfOk result (λ zero. zero ≡ true → grammar.is_intra code ≡ false) }
@@ -188,7 +188,7 @@ fn read_residual_unless<
 }
 
 /// Reads the transform parameters and the subbands.
-#[tactic(auto, unfolding(crate::specs::Grammar::residual), using(dirac_bits::specs::Then::read_then))]
+#[tactic(auto, unfolding(crate::specs::Grammar::residual_fields), using(dirac_bits::specs::Then::read_then))]
 fn read_residual<
     F: Fn(Global, &mut BitReader<'_>, Transform, &Sequence) -> Result<CodedResidual, Stop>,
 >(
@@ -199,7 +199,7 @@ fn read_residual<
 ) -> Result<CodedResidual, Stop>
     requires planes { ReadsPlanes (F.pre planes.now) (F.post planes.now) }
     requires sequence { IsSequence sequence.now }
-    ensures value { ReadsOrStops result r.new (read (grammar.residual sequence.now) r.old) }
+    ensures value { ReadsOrStops result r.new (read (grammar.residual_fields sequence.now) r.old) }
     ensures place_inside { IfErr result (IsEarly (length r.old.bytes)) }
     ensures kept { r.new.bytes ≡ r.old.bytes }
     ensures fits { IfOk result (IsResidual sequence.now) }

@@ -63,7 +63,7 @@ pub(crate) fn read_plane_bands(
 ) -> Result<PlaneBands, Stop>
     requires layout { IsLayout transform.now }
     requires size { IsPlaneSize width height }
-    ensures value { ReadsOrStops result r.new (read (grammar.plane_bands transform.now width height) r.old) }
+    ensures value { ReadsOrStops result r.new (read (grammar.subbands_of_plane transform.now width height) r.old) }
     ensures place_inside { IfErr result (IsEarly (length r.old.bytes)) }
     ensures kept { r.new.bytes ≡ r.old.bytes }
     ensures lawful { IfOk result (AreBandsOf transform.now width height) }

@@ -7,7 +7,7 @@ ghost use Rattle.dirac_bits.specs.Writing.{up_to_byte};
 ghost use Rattle.dirac_sequence_header.specs.Lawful.{IsSequence};
 ghost use Rattle.dirac_picture.specs.Fits.{AreBandsOf, IsLayout, IsPlaneSize};
 ghost use Rattle.dirac_picture.specs.Bands.{bands_of};
-ghost use Rattle.dirac_picture.specs.Texts.{AreTexts, IsBandText, IsTextOf, text_of};
+ghost use Rattle.dirac_picture.specs.Texts.{AreTexts, IsBandText, IsTextOf, text_of_plane};
 ghost use Rattle.dirac_picture.specs.Writable.{AreWritable, IsWritten};
 ghost use Rattle.dirac_picture.specs.Written.{with_plane};
 
@@ -58,7 +58,7 @@ fn component_text(
 ) -> Result<Vec<u8>, NoMemory>
     requires sequence { IsSequence sequence.now }
     requires written { IsWritten sequence.now residual.now }
-    ensures { IfOk result (λ v. bits_of v.items ≡ text_of sequence.now residual.now component) }
+    ensures { IfOk result (λ v. bits_of v.items ≡ text_of_plane sequence.now residual.now component) }
 {
     let width = sequence.plane_width(component);
     let height = sequence.plane_height(component);
@@ -120,7 +120,8 @@ fn text_among(
 ) -> Result<Vec<u8>, NoMemory>
     requires sequence { IsSequence sequence.now }
     requires written { IfSome residual.now (IsWritten sequence.now) }
-    ensures value { IfOk result (λ v. IfSome residual.now (λ r. bits_of v.items ≡ text_of sequence.now r component)) }
+    ensures value { IfOk result
+        (λ v. IfSome residual.now (λ r. bits_of v.items ≡ text_of_plane sequence.now r component)) }
     ensures none { residual.now ≡ None → IfOk result (λ v. v.items ≡ []) }
 {
     match residual {

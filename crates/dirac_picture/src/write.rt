@@ -6,7 +6,7 @@ ghost use Rattle.dirac_bits.specs.Writing.{up_to_byte};
 ghost use Rattle.dirac_sequence_header.specs.Lawful.{IsSequence};
 ghost use Rattle.dirac_header.specs.Codes.{is_reference};
 ghost use Rattle.dirac_header.specs.Written.{HasReferences, MayRetire, header_bits};
-ghost use Rattle.dirac_picture.specs.Texts.{AreTexts, joined};
+ghost use Rattle.dirac_picture.specs.Texts.{AreTexts, with_all_planes};
 ghost use Rattle.dirac_picture.specs.Writable.{IsWritten};
 ghost use Rattle.dirac_picture.specs.Written.{HasSpelledTable, motion_by, with_coded, with_coefficients, with_flag};
 ghost use Rattle.dirac_picture.specs.Written.{with_motion_by, with_residual, with_table};
@@ -22,7 +22,7 @@ use std::alloc::Global;
 
 /// Writes the bands of Y, U and V, which were written apart.
 fn write_texts(w: &mut BitWriter, texts: &Texts) -> Result<(), NoMemory>
-    ensures { OnOk result (w.new ≡ joined w.old (bits_of texts.now.y.items) (bits_of texts.now.u.items)
+    ensures { OnOk result (w.new ≡ with_all_planes w.old (bits_of texts.now.y.items) (bits_of texts.now.u.items)
         (bits_of texts.now.v.items)) }
 {
     w.align()?;

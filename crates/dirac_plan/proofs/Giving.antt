@@ -3,7 +3,7 @@ use Rattle.std.proofs.Common.{◌≡◌, ℕ, zero, suc, ◌+◌, ◌-◌, ◌*�
 use Rattle.std.proofs.lemmas.Bool.{cases_eq}
 use Rattle.dirac_types.specs.declared.settings.Settings.{Settings}
 use Rattle.dirac_plan.specs.declared.planned.Planned.{Planned}
-use Rattle.dirac_plan.specs.Plan.{opening_of, anchor_of, between_of, second_of, plan}
+use Rattle.dirac_plan.specs.Plan.{opening_of, anchor_of, between_of, second_of_anchor, plan}
 use Rattle.dirac_plan.specs.Planning.{frame_pictures, group_offset, group_pictures, must_be_taken_first, refers_elsewhere, stands_between, step_pictures}
 use Rattle.dirac_plan.specs.Waiting.{anchor_at, step_anchor, step_offset, whole_anchor_at, whole_frames}
 use Rattle.dirac_plan.proofs.Numbers.{anchor_number, between_number, either}
@@ -134,8 +134,8 @@ frame_in_step n s g first len k zero frames some late is =
       at = frame_at n s g first len k zero frames is.place;
       number = at_anchor late
           (omega (arith, one, is.step, is.anchor, is.place.in_plan, is.place.len_is, is.place.place, is.place.in_group))
-          (anchor_number b (first + k * (s.between + 1)) (second_of s first k) (retirement s first k) ∙ omega (arith, is.step, is.anchor));
-      kind = left_frames s (anchor_here s first k b) frames ∙ anchor_kind b (first + k * (s.between + 1)) (second_of s first k) (retirement s first k) ∙ sym (ap (nat_lt 0) is.step);
+          (anchor_number b (first + k * (s.between + 1)) (second_of_anchor s first k) (retirement s first k) ∙ omega (arith, is.step, is.anchor));
+      kind = left_frames s (anchor_here s first k b) frames ∙ anchor_kind b (first + k * (s.between + 1)) (second_of_anchor s first k) (retirement s first k) ∙ sym (ap (nat_lt 0) is.step);
     }
 frame_in_step n s g first len k (suc j) frames some late is =
     let b : ℕ = behind s first len k in

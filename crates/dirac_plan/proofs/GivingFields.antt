@@ -6,7 +6,7 @@ use Rattle.dirac_types.specs.declared.settings.Settings.{Settings}
 use Rattle.dirac_common.specs.declared.codes.TheConstants.{INTRA_REFERENCE}
 use Rattle.dirac_plan.specs.declared.planned.Planned.{Planned}
 use Rattle.dirac_plan.specs.Frames.{IsBelow}
-use Rattle.dirac_plan.specs.Plan.{opening_of, anchor_of, between_of, field_of, field_or_first, second_of, plan}
+use Rattle.dirac_plan.specs.Plan.{opening_of, anchor_of, between_of, field_of, field_or_first, second_of_anchor, plan}
 use Rattle.dirac_plan.specs.Planning.{frame_pictures, group_offset, group_pictures, must_be_taken_first, refers_elsewhere, step_pictures}
 use Rattle.dirac_plan.specs.Waiting.{anchor_at, step_offset, whole_anchor_at, whole_frames}
 use Rattle.dirac_plan.proofs.Numbers.{either}
@@ -251,7 +251,7 @@ field_anchor n s g first k r fields some is inside =
       | inl even ↦ even_before n s q some even
       | inr odd ↦ odd_before n s q (last_place frames s) some (omega (arith, odd)) last front
     ] in
-    let number = plain_number b (first + k * (s.between + 1)) (second_of s first k) (retirement s first k) in
+    let number = plain_number b (first + k * (s.between + 1)) (second_of_anchor s first k) (retirement s first k) in
     field_item n s q r g (anchor_here s first k b) fields (anchor_is_at frames s q first len k at) (omega arith) (omega arith) (omega (arith, is.place))
   where
     plain_number : (number before : ℕ) (second retired : Option ℕ) → (anchor_of number before second retired).number ≡ number
@@ -340,11 +340,11 @@ next_opening n s g fields some within early =
 
 anchor_here_number : (n : ℕ) (s : Settings) (first k r b : ℕ) → (field_of n r (anchor_here s first k b)).number ≡ 2 * b + r
 unfolding anchor_here
-anchor_here_number n s first k r b = anchor_field_number n r b (first + k * (s.between + 1)) (second_of s first k) (retirement s first k)
+anchor_here_number n s first k r b = anchor_field_number n r b (first + k * (s.between + 1)) (second_of_anchor s first k) (retirement s first k)
 
 anchor_here_kind : (n : ℕ) (s : Settings) (first k r b : ℕ) → (s.fields ≡ 0 → ⊥) → first + k * (s.between + 1) < b → r ≤ 1 → must_be_taken_first s (Some (field_of n r (anchor_here s first k b))) ≡ nat_lt 0 r
 unfolding anchor_here
-anchor_here_kind n s first k r b fields less few = anchor_field_kind n s r b (first + k * (s.between + 1)) (second_of s first k) (retirement s first k) fields few less
+anchor_here_kind n s first k r b fields less few = anchor_field_kind n s r b (first + k * (s.between + 1)) (second_of_anchor s first k) (retirement s first k) fields few less
 
 between_here_number : (n : ℕ) (s : Settings) (first k p q b : ℕ) → (field_of n p (between_here s q first k b)).number ≡ 2 * (q - 1) + p
 unfolding between_here

@@ -7,7 +7,7 @@ use Rattle.std.proofs.lemmas.List.Sums.{sum_by-cons}
 use Rattle.std.proofs.lemmas.List.FromFn.{length-range_with_len, length-map-range_with_len}
 use Rattle.dirac_types.specs.declared.settings.Settings.{Settings}
 use Rattle.dirac_plan.specs.declared.planned.Planned.{Planned}
-use Rattle.dirac_plan.specs.Plan.{opening_of, anchor_of, between_of, anchor_offset, anchors_behind, left_anchor, second_of, retired_of, retired_of_former, step, group, group_at, group_count, frames_plan}
+use Rattle.dirac_plan.specs.Plan.{opening_of, anchor_of, between_of, anchor_offset, anchors_behind, left_anchor, second_of_anchor, retired_of, retired_of_former, step, group, group_at, group_count, frames_plan}
 use Rattle.dirac_plan.proofs.Lists.{get_joined, get_mapped}
 use Rattle.dirac_plan.proofs.Anchors.{anchor_is}
 use Rattle.dirac_plan.proofs.Numbers.{of_number, sum_group, sum_frames}
@@ -117,7 +117,7 @@ in_step n s g first len k j x is here =
     plan_item s n is.group.0 o g x is.in_group (omega (arith, is.group.1, is.place)) is.in_plan (subst P is.group.1 (subst Q is.len_is item))
 
 pub anchor_item : (n : ℕ) (s : Settings) (g first len k : ℕ) → IsPlace n s g first len k 0
-    → slice_get (frames_plan n s) g ≡ Some (anchor_of (first + anchor_offset s len (suc k)) (first + anchor_offset s len k) (second_of s first k) (retired_of s len first k))
+    → slice_get (frames_plan n s) g ≡ Some (anchor_of (first + anchor_offset s len (suc k)) (first + anchor_offset s len k) (second_of_anchor s first k) (retired_of s len first k))
 anchor_item n s g first len k is = in_step n s g first len k 0 _ is refl
 
 pub between_item : (n : ℕ) (s : Settings) (g first len k j : ℕ) → IsPlace n s g first len k j → 0 < j
@@ -189,13 +189,13 @@ retired_is s len first (suc (suc k)) h =
 
 -- the anchor at a place, by numbers alone
 pub coded_anchor : (n : ℕ) (s : Settings) (g first len k : ℕ) → IsPlace n s g first len k 0
-    → slice_get (frames_plan n s) g ≡ Some (anchor_of (first + min (k * (s.between + 1) + (s.between + 1)) (len - 1)) (first + k * (s.between + 1)) (second_of s first k)
+    → slice_get (frames_plan n s) g ≡ Some (anchor_of (first + min (k * (s.between + 1) + (s.between + 1)) (len - 1)) (first + k * (s.between + 1)) (second_of_anchor s first k)
     (if nat_le 2 k then Some (first + k * (s.between + 1) - (s.between + 1)) else retired_of_former s first (k + 1)))
 coded_anchor n s g first len k is =
     let before = before_place n s g first len k 0 is in
     let after = after_place n s g first len k 0 is in
     let retired = retired_is s len first k (omega (arith, is.in_plan, is.len_is, is.place, is.in_group)) in
-    let of : ℕ → ℕ → Option ℕ → Option Planned = λ a b r. Some (anchor_of a b (second_of s first k) r) in
+    let of : ℕ → ℕ → Option ℕ → Option Planned = λ a b r. Some (anchor_of a b (second_of_anchor s first k) r) in
     anchor_item n s g first len k is
     ∙ ap (λ a. of a (first + anchor_offset s len k) (retired_of s len first k)) after
     ∙ ap₂ (of (first + min (k * (s.between + 1) + (s.between + 1)) (len - 1))) before retired

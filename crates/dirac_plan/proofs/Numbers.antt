@@ -5,7 +5,7 @@ use Rattle.std.proofs.lemmas.List.Sums.{sum_by-append, sum_by-cons}
 use Rattle.std.proofs.lemmas.Bool.{cases_lt}
 use Rattle.dirac_types.specs.declared.settings.Settings.{Settings}
 use Rattle.dirac_plan.specs.declared.planned.Planned.{Planned}
-use Rattle.dirac_plan.specs.Plan.{opening_of, anchor_of, between_of, anchor_offset, anchors_behind, second_of, retired_of, step, group, group_at, group_count, frames_plan}
+use Rattle.dirac_plan.specs.Plan.{opening_of, anchor_of, between_of, anchor_offset, anchors_behind, second_of_anchor, retired_of, step, group, group_at, group_count, frames_plan}
 use Rattle.dirac_plan.proofs.Lists.{sum_ranges}
 use Rattle.dirac_plan.proofs.Anchors.{anchor_rises, last_anchor, covered, uncovered}
 
@@ -45,8 +45,8 @@ sum_step f s len first k rises =
     let a : ℕ = first + anchor_offset s len k in
     let b : ℕ = first + anchor_offset s len (suc k) in
     let between : ℕ → Planned = between_of s.references a b in
-    let coded = anchor_of b a (second_of s first k) (retired_of s len first k) in
-    let head = ap f (anchor_number b a (second_of s first k) (retired_of s len first k)) in
+    let coded = anchor_of b a (second_of_anchor s first k) (retired_of s len first k) in
+    let head = ap f (anchor_number b a (second_of_anchor s first k) (retired_of s len first k)) in
     let rest = sum_mapped f between (between_number s.references a b) (range_with_len (a + 1) (b - a - 1)) in
     let whole = sum_by-cons (of_number f) coded (map between (range_with_len (a + 1) (b - a - 1))) in
     let last = sum_one f b in

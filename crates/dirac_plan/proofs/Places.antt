@@ -5,7 +5,7 @@ use Rattle.std.proofs.lemmas.Option.{IfSome_then, slice_get_within}
 use Rattle.dirac_types.specs.declared.settings.Settings.{Settings}
 use Rattle.dirac_plan.specs.declared.planned.Planned.{Planned}
 use Rattle.dirac_plan.specs.Frames.{IsBelow}
-use Rattle.dirac_plan.specs.Plan.{opening_of, anchor_of, between_of, frames_plan, retired_of_former, second_of}
+use Rattle.dirac_plan.specs.Plan.{opening_of, anchor_of, between_of, frames_plan, retired_of_former, second_of_anchor}
 use Rattle.dirac_plan.proofs.Numbers.{either}
 use Rattle.dirac_plan.proofs.Items.{IsPlace, place_of, length_frames, opening_item, coded_anchor, coded_between, former_below}
 
@@ -17,7 +17,7 @@ unfoldable pub retirement : Settings → ℕ → ℕ → Option ℕ
 retirement s first k = if nat_le 2 k then Some (first + k * (s.between + 1) - (s.between + 1)) else retired_of_former s first (k + 1)
 
 unfoldable pub anchor_here : Settings → ℕ → ℕ → ℕ → Planned
-anchor_here s first k b = anchor_of b (first + k * (s.between + 1)) (second_of s first k) (retirement s first k)
+anchor_here s first k b = anchor_of b (first + k * (s.between + 1)) (second_of_anchor s first k) (retirement s first k)
 
 unfoldable pub between_here : Settings → ℕ → ℕ → ℕ → ℕ → Planned
 between_here s g first k b = between_of s.references (first + k * (s.between + 1)) b (g - 1)
@@ -85,7 +85,7 @@ former_within n s first j some within = IfSome_then (retired_of_former s first j
 pub anchor_here_below : (n : ℕ) (s : Settings) (first k b : ℕ) → 0 < s.gop → b < n → first + k * (s.between + 1) < n → IsBelow n (anchor_here s first k b)
 unfolding anchor_here retirement
 anchor_here_below n s first k b some here before =
-    anchor_below n b (first + k * (s.between + 1)) (second_of s first k) _ here before (some_if n first _ (omega arith)) (some_else n (first + k * (s.between + 1) - (s.between + 1)) (nat_le 2 k) (retired_of_former s first (k + 1)) (omega arith) (former_within n s first (k + 1) some (omega arith)))
+    anchor_below n b (first + k * (s.between + 1)) (second_of_anchor s first k) _ here before (some_if n first _ (omega arith)) (some_else n (first + k * (s.between + 1) - (s.between + 1)) (nat_le 2 k) (retired_of_former s first (k + 1)) (omega arith) (former_within n s first (k + 1) some (omega arith)))
 
 pub between_here_below : (n : ℕ) (s : Settings) (g first k b : ℕ) → b < n → first + k * (s.between + 1) < n → g - 1 < n → IsBelow n (between_here s g first k b)
 unfolding between_here

@@ -9,8 +9,8 @@ use Rattle.dirac_common.specs.declared.codes.TheConstants.{INTER_REFERENCE_1, IN
 use Rattle.dirac_plan.specs.declared.planned.Planned.{Planned}
 
 -- an intra frame to which others may refer, which retires none
-abbrev pub opening : ℕ → Planned
-opening number = record { number = number; code = INTRA_REFERENCE; ref1 = None; ref2 = None; retire = None }
+abbrev pub opening_frame : ℕ → Planned
+opening_frame number = record { number = number; code = INTRA_REFERENCE; ref1 = None; ref2 = None; retire = None }
 
 -- an anchor behind the first: a frame to which others may refer, which refers to the anchor before it, and to a second
 -- frame if there is one
@@ -39,8 +39,8 @@ anchors_behind s len = (len - 1 + s.between) / (s.between + 1)
 
 -- what the anchor behind anchor k refers to besides anchor k: with two references the group's first frame, if that is
 -- another one
-abbrev pub second_of : Settings → ℕ → ℕ → Option ℕ
-second_of s first k = if s.references == 2 && nat_le 1 k then Some first else None
+abbrev pub second_of_anchor : Settings → ℕ → ℕ → Option ℕ
+second_of_anchor s first k = if s.references == 2 && nat_le 1 k then Some first else None
 
 -- behind a group, of which anchor m is the last, these of its anchors are listed, oldest first: the first one, the one
 -- before the last, and the last, so far as these are others
@@ -78,7 +78,7 @@ abbrev pub step : Settings → ℕ → ℕ → ℕ → List Planned
 step s len first k =
     let before = first + anchor_offset s len k in
     let after = first + anchor_offset s len (suc k) in
-    anchor_of after before (second_of s first k) (retired_of s len first k)
+    anchor_of after before (second_of_anchor s first k) (retired_of s len first k)
     ∷ map (between_of s.references before after) (range_with_len (before + 1) (after - before - 1))
 
 -- a group of len frames, of which the first has this number

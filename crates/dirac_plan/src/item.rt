@@ -61,7 +61,7 @@ fn between(references: u32, before: u32, after: u32, number: u32) -> Planned
 
 /// What the anchor behind anchor `k` of a group refers to besides anchor `k`: the group's first frame, or none.
 fn second_of(settings: &Settings, first: u32, k: u32) -> Option<u32>
-    ensures { result ≡ plans.second_of settings.now first k }
+    ensures { result ≡ plans.second_of_anchor settings.now first k }
 {
     if settings.references == 2 && 1 <= k {
         Some(first)

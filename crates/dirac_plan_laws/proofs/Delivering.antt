@@ -11,7 +11,7 @@ use Rattle.std.proofs.lemmas.Option.{slice_get-map, slice_get_within, get_or_fro
 use Rattle.std.proofs.lemmas.List.Sums.{sum_by-cons, sum_by-append, sum_by-remove}
 use Rattle.dirac_common.specs.declared.picture.Picture.{Picture}
 use Rattle.dirac_refs.specs.declared.waiting.Waiting.{Waiting}
-use Rattle.dirac_refs.specs.Delivery.{LeastLeavesFirst, Leaving, deliver, delivered, flush, flushed, flushed_by, key_at, key_of, least, least_place, others, picture_of, pushed_all}
+use Rattle.dirac_refs.specs.Delivery.{LeastLeavesFirst, Leaving, deliver, delivered, in_delivery_order, flushed, flushed_by, key_at, key_of, least, least_place, others, picture_of, pushed_all}
 use Rattle.dirac_refs.specs.References.{listed}
 use Rattle.dirac_plan.specs.Plan.{plan}
 use Rattle.dirac_plan.specs.Waiting.{number_of}
@@ -353,7 +353,7 @@ near_delivered law coded near few = record { all = whole; front = fronts }
     found : AllByRecursion (IsFound coded) coded
     found = found_alone coded (at_most_once coded near)
 
-    whole : flush (map as_waiting coded) ≡ by_number (length coded) coded
+    whole : in_delivery_order (map as_waiting coded) ≡ by_number (length coded) coded
     whole =
         let all = many_more law coded near few coded [] [] [] (sym (append-nil coded)) found (nothing_pushed coded) in
         let size = waiting_many coded coded all.left all.pushed in

@@ -11,7 +11,7 @@ use Rattle.dirac_common.specs.Codes.{is_reference}
 use Rattle.dirac_header.specs.Written.{MayRetire}
 use Rattle.dirac_plan.specs.declared.planned.Planned.{Planned}
 use Rattle.dirac_plan.specs.Frames.{IsBelow}
-use Rattle.dirac_plan.specs.Plan.{anchor_of, anchor_offset, anchors_behind, between_of, field_of, field_or_first, fields_of, frames_plan, group, group_at, group_count, opening_of, plan, retired_of, retired_of_former, second_of, step}
+use Rattle.dirac_plan.specs.Plan.{anchor_of, anchor_offset, anchors_behind, between_of, field_of, field_or_first, fields_of, frames_plan, group, group_at, group_count, opening_of, plan, retired_of, retired_of_former, second_of_anchor, step}
 use Rattle.dirac_plan.proofs.Anchors.{anchor_is, anchor_rises, uncovered}
 use Rattle.dirac_plan.proofs.Items.{former_below}
 use Rattle.dirac_plan.proofs.Numbers.{either}
@@ -153,9 +153,9 @@ step_planned s n len first k gop few some within h =
     let here = anchor_inside s len k some in
     let there = anchor_inside s len (suc k) some in
     let P : Option ℕ → Type 0 = λ o. IfSome o (λ m. m < n) in
-    let second : P (second_of s first k) = either (s.references == 2 && nat_le 1 k) P (Some first) None (omega arith) tt in
+    let second : P (second_of_anchor s first k) = either (s.references == 2 && nat_le 1 k) P (Some first) None (omega arith) tt in
     let between : ℕ → Planned = between_of s.references a b in (
-      anchor_planned n b a (second_of s first k) (retired_of s len first k) few (omega arith) (omega arith) second (retires_other s n len first k gop some within h),
+      anchor_planned n b a (second_of_anchor s first k) (retired_of s len first k) few (omega arith) (omega arith) second (retires_other s n len first k gop some within h),
       each_mapped (IsPlannedOf n) between (a + 1) (b - a - 1) (λ m low high. between_planned n s.references a b m few (omega arith) (omega arith) (omega arith)),
     )
 

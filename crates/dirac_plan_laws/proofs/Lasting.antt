@@ -4,7 +4,7 @@ use Rattle.std.proofs.lemmas.Bool.{cases_eq, cases_lt, cond-false, cond-true, co
 use Rattle.std.proofs.lemmas.Nat.{div-mul-add, le-div, mod-mul-add, mod_below}
 use Rattle.dirac_types.specs.declared.settings.Settings.{Settings}
 use Rattle.dirac_plan.specs.declared.planned.Planned.{Planned}
-use Rattle.dirac_plan.specs.Plan.{anchor_of, between_of, frames_plan, second_of, retired_of_former}
+use Rattle.dirac_plan.specs.Plan.{anchor_of, between_of, frames_plan, second_of_anchor, retired_of_former}
 use Rattle.dirac_plan.proofs.Items.{IsPlace, coded_anchor, coded_between, opening_item, place_of}
 
 -- ---- where the step of a frame ends
@@ -118,7 +118,7 @@ same_step n m s g first len k zero more is ready =
     let here = whole_step n s g first len k 0 is ready in
     let there = whole_step m s g first (min s.gop (m - first)) k 0 long (omega arith) in
     let retired : Option ℕ = if nat_le 2 k then Some (first + k * (s.between + 1) - (s.between + 1)) else retired_of_former s first (k + 1) in
-    let of : ℕ → Option Planned = λ b. Some (anchor_of b (first + k * (s.between + 1)) (second_of s first k) retired) in
+    let of : ℕ → Option Planned = λ b. Some (anchor_of b (first + k * (s.between + 1)) (second_of_anchor s first k) retired) in
     coded_anchor m s g first (min s.gop (m - first)) k long ∙ ap of (there ∙ sym here) ∙ sym (coded_anchor n s g first len k is)
 same_step n m s g first len k (suc j) more is ready =
     let long = longer n m s g first len k (suc j) more is in

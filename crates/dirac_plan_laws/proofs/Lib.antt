@@ -3,6 +3,7 @@ pub mod Counts
 pub mod Delivering
 pub mod Each
 pub mod Few
+pub mod FewFields
 pub mod Fields
 pub mod Headers
 pub mod Lasting

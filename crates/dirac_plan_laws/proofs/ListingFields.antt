@@ -23,7 +23,7 @@ both_fields-append (t ∷ ts) us = ap (λ l. 2 * t ∷ (2 * t + 1) ∷ l) (both_
 -- ---- numbers that are left
 
 -- a number goes
-goes : (n m : ℕ) (numbers : List ℕ) → m ≡ n → other_numbers n (m ∷ numbers) ≡ other_numbers n numbers
+pub goes : (n m : ℕ) (numbers : List ℕ) → m ≡ n → other_numbers n (m ∷ numbers) ≡ other_numbers n numbers
 goes n m numbers e = rw (eq-eqb m n e) refl
 
 either_order : (a b : ℕ) (numbers : List ℕ) → other_numbers a (other_numbers b numbers) ≡ other_numbers b (other_numbers a numbers)

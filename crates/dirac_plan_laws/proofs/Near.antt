@@ -7,7 +7,7 @@ use Rattle.std.proofs.lemmas.Option.{slice_get_within}
 use Rattle.std.proofs.lemmas.List.Sums.{sum_by-cons}
 use Rattle.dirac_types.specs.declared.settings.Settings.{Settings}
 use Rattle.dirac_plan.specs.declared.planned.Planned.{Planned}
-use Rattle.dirac_plan.specs.Plan.{opening_of, anchor_of, between_of, anchor_offset, second_of, retired_of, fields_of, frames_plan}
+use Rattle.dirac_plan.specs.Plan.{opening_of, anchor_of, between_of, anchor_offset, second_of_anchor, retired_of, fields_of, frames_plan}
 use Rattle.dirac_plan.proofs.Accepted.{paced}
 use Rattle.dirac_plan.proofs.Numbers.{of_number, sum_frames, anchor_number, between_number}
 use Rattle.dirac_plan.proofs.Items.{IsPlace, each_of, place_of, length_frames, opening_item, anchor_item, between_item, after_place}
@@ -25,13 +25,13 @@ near_step : (n : ℕ) (s : Settings) (g first len k j : ℕ) → IsPlace n s g f
 near_step n s g first len zero zero is =
     let a : ℕ = first + anchor_offset s len 1 in
     let r = after_place n s g first len 0 0 is in
-    let number = anchor_number a (first + anchor_offset s len 0) (second_of s first 0) (retired_of s len first 0) in
-    record { item = anchor_of a (first + anchor_offset s len 0) (second_of s first 0) (retired_of s len first 0); at = anchor_item n s g first len 0 is; near = omega (arith, is.place, is.in_plan, is.len_is, is.in_group) }
+    let number = anchor_number a (first + anchor_offset s len 0) (second_of_anchor s first 0) (retired_of s len first 0) in
+    record { item = anchor_of a (first + anchor_offset s len 0) (second_of_anchor s first 0) (retired_of s len first 0); at = anchor_item n s g first len 0 is; near = omega (arith, is.place, is.in_plan, is.len_is, is.in_group) }
 near_step n s g first len (suc k) zero is =
     let a : ℕ = first + anchor_offset s len (suc (suc k)) in
     let r = after_place n s g first len (suc k) 0 is in
-    let number = anchor_number a (first + anchor_offset s len (suc k)) (second_of s first (suc k)) (retired_of s len first (suc k)) in
-    record { item = anchor_of a (first + anchor_offset s len (suc k)) (second_of s first (suc k)) (retired_of s len first (suc k)); at = anchor_item n s g first len (suc k) is; near = omega (arith, is.place, is.in_plan, is.len_is, is.in_group) }
+    let number = anchor_number a (first + anchor_offset s len (suc k)) (second_of_anchor s first (suc k)) (retired_of s len first (suc k)) in
+    record { item = anchor_of a (first + anchor_offset s len (suc k)) (second_of_anchor s first (suc k)) (retired_of s len first (suc k)); at = anchor_item n s g first len (suc k) is; near = omega (arith, is.place, is.in_plan, is.len_is, is.in_group) }
 near_step n s g first len k (suc j) is =
     let number = between_number s.references (first + anchor_offset s len k) (first + anchor_offset s len (suc k)) (g - 1) in
     record { item = between_of s.references (first + anchor_offset s len k) (first + anchor_offset s len (suc k)) (g - 1); at = between_item n s g first len k (suc j) is (omega arith); near = omega arith }

@@ -4,7 +4,7 @@ use Rattle.dirac_common.specs.declared.picture.Picture.{Picture}
 use Rattle.dirac_common.specs.Table.{Table}
 use Rattle.dirac_types.specs.declared.settings.Settings.{Settings}
 use Rattle.dirac_types.specs.Settings.{of_base}
-use Rattle.dirac_refs.specs.Delivery.{deliver, flush, least_among}
+use Rattle.dirac_refs.specs.Delivery.{deliver, in_delivery_order, least_among}
 use Rattle.dirac_refs.specs.References.{refs_of}
 use Rattle.dirac_plan.specs.Plan.{frames_plan, plan, retired_of_former}
 use Rattle.dirac_plan.specs.Waiting.{number_of}
@@ -24,7 +24,7 @@ unfolding plan frames_plan retired_of_former settings picture
 kept plane = refl
 
 -- six pictures in coding order leave by rising number, the first two of them before the end
-by_rising_number : (plane : Table) → map number_of (flush (map as_waiting (map (picture plane) (0 ∷ 4 ∷ 1 ∷ 2 ∷ 3 ∷ 5 ∷ [])))) ≡ 0 ∷ 1 ∷ 2 ∷ 3 ∷ 4 ∷ 5 ∷ []
+by_rising_number : (plane : Table) → map number_of (in_delivery_order (map as_waiting (map (picture plane) (0 ∷ 4 ∷ 1 ∷ 2 ∷ 3 ∷ 5 ∷ [])))) ≡ 0 ∷ 1 ∷ 2 ∷ 3 ∷ 4 ∷ 5 ∷ []
 unfolding picture least_among
 by_rising_number plane = refl
 

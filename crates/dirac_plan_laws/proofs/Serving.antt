@@ -6,7 +6,7 @@ use Rattle.dirac_common.specs.declared.picture.Picture.{Picture}
 use Rattle.dirac_types.specs.declared.settings.Settings.{Settings}
 use Rattle.dirac_refs.specs.References.{committed}
 use Rattle.dirac_plan.specs.declared.planned.Planned.{Planned}
-use Rattle.dirac_plan.specs.Plan.{anchor_of, between_of, anchor_offset, anchors_behind, second_of, retired_of, retired_of_former, step, group, group_at, group_count, frames_plan}
+use Rattle.dirac_plan.specs.Plan.{anchor_of, between_of, anchor_offset, anchors_behind, second_of_anchor, retired_of, retired_of_former, step, group, group_at, group_count, frames_plan}
 use Rattle.dirac_plan.proofs.Anchors.{anchor_is, anchor_rises}
 use Rattle.dirac_plan.proofs.Items.{former_below}
 use Rattle.dirac_plan.proofs.Numbers.{either}
@@ -144,7 +144,7 @@ served_step s len first k list K within h ends more =
     let P : Option ℕ → Type 0 = λ o. is_listed list o ≡ true in
     let before = found a list (kept s len first k) ends (has_last s len first k) in
     let second = either (s.references == 2 && nat_le 1 k) P (Some first) None (found first list (kept s len first k) ends (has_opening s len first k)) refl in
-    served_anchor b a (second_of s first k) (retired_of s len first k) list _ K before second
+    served_anchor b a (second_of_anchor s first k) (retired_of s len first k) list _ K before second
     (λ coded e.
     let l = committed list (retired_of s len first k) (Some coded) in
     let numbers : ℕ → List ℕ = λ n. other_numbers n (left_numbers (retired_of s len first k) (kept s len first k)) ++ n ∷ [] in

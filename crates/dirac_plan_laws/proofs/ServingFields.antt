@@ -10,12 +10,12 @@ use Rattle.dirac_common.specs.declared.picture.Picture.{Picture}
 use Rattle.dirac_types.specs.declared.settings.Settings.{Settings}
 use Rattle.dirac_refs.specs.References.{committed, is_listed, refs_from}
 use Rattle.dirac_plan.specs.declared.planned.Planned.{Planned}
-use Rattle.dirac_plan.specs.Plan.{anchor_of, between_of, anchors_behind, field_of, field_or_first, fields_of, opening_of, second_of, retired_of, retired_of_former, step, group, group_at, group_count, frames_plan, plan}
+use Rattle.dirac_plan.specs.Plan.{anchor_of, between_of, anchors_behind, field_of, field_or_first, fields_of, opening_of, second_of_anchor, retired_of, retired_of_former, step, group, group_at, group_count, frames_plan, plan}
 use Rattle.dirac_plan.proofs.Anchors.{anchor_is, anchor_rises}
 use Rattle.dirac_plan.proofs.Items.{former_below}
 use Rattle.dirac_plan.proofs.Numbers.{either}
 use Rattle.dirac_plan.specs.Waiting.{number_of}
-use Rattle.dirac_plan_laws.specs.References.{AreFound, AreListed, ArePlanned, AreServed, ReferencesAreKept, ReferencesAreListed, commits, list_with, planned_number}
+use Rattle.dirac_plan_laws.specs.References.{ReferencesAreFound, AreListed, ArePlanned, AreServed, ReferencesAreKept, ReferencesAreListed, commits, list_with, planned_number}
 use Rattle.dirac_plan_laws.proofs.Fields.{of_plan}
 use Rattle.dirac_plan_laws.proofs.Listing.{EndsWith, anything, found, has, has_first, keeps, left_numbers, other_numbers}
 use Rattle.dirac_plan_laws.proofs.ListingFields.{both_fields, ends_with, frame_appended, has_appended, has_fields, has_still, length-both_fields, length-numbers_with, numbers_with}
@@ -229,8 +229,8 @@ step_fields_served s n len first k list K short h inside ends more =
     let whole : AreReferred n a list = referred_whole n a list ns (omega arith) ends last in
     let from : AreReferred n first list = referred_whole n first list ns (omega arith) ends start in
     let P : ℕ → List Picture → Option ℕ → Type 0 = λ p l o. is_listed l (option_map (field_or_first n p) o) ≡ true in
-    served_append (fields_of n (anchor_of b a (second_of s first k) retired)) rest list K
-    (anchor_fields_served n b a (second_of s first k) retired list (λ l. ServedThen l rest K)
+    served_append (fields_of n (anchor_of b a (second_of_anchor s first k) retired)) rest list K
+    (anchor_fields_served n b a (second_of_anchor s first k) retired list (λ l. ServedThen l rest K)
     whole.first (either (s.references == 2 && nat_le 1 k) (P 0 list) (Some first) None from.first refl)
     (λ coded e two.
     let l = with_first list retired coded in
@@ -334,7 +334,7 @@ pub references_kept : ReferencesAreKept
 references_kept s n before after p coded e numbers = served_at before after p coded [] (subst (AreServed []) e (plans_served s n)) numbers
 
 -- where the pictures before it become these
-found_of : (planned : List Planned) (pictures list : List Picture) → AreServed list planned → ArePlanned planned pictures → AreFound list planned pictures
+found_of : (planned : List Planned) (pictures list : List Picture) → AreServed list planned → ArePlanned planned pictures → ReferencesAreFound list planned pictures
 found_of [] pictures list h e = tt
 found_of (p ∷ planned) [] list h e = tt
 found_of (p ∷ planned) (c ∷ pictures) list h e =
@@ -343,5 +343,5 @@ found_of (p ∷ planned) (c ∷ pictures) list h e =
     let rest : map number_of pictures ≡ map planned_number planned = cc in
     (h.0, found_of planned pictures (list_with list p c) (h.1 c here) rest)
 
-pub plans_found : (s : Settings) (n : ℕ) (pictures : List Picture) → ArePlanned (plan n s) pictures → AreFound [] (plan n s) pictures
+pub plans_found : (s : Settings) (n : ℕ) (pictures : List Picture) → ArePlanned (plan n s) pictures → ReferencesAreFound [] (plan n s) pictures
 plans_found s n pictures e = found_of (plan n s) pictures [] (plans_served s n) e

@@ -6,7 +6,7 @@ use Rattle.dirac_common.specs.declared.picture.Picture.{Picture}
 use Rattle.dirac_types.specs.declared.settings.Settings.{Settings}
 use Rattle.dirac_types.specs.Settings.{IsAccepted}
 use Rattle.dirac_refs.specs.declared.waiting.Waiting.{Waiting}
-use Rattle.dirac_refs.specs.Delivery.{deliver, flush, key_of}
+use Rattle.dirac_refs.specs.Delivery.{deliver, in_delivery_order, key_of}
 use Rattle.dirac_refs.specs.References.{listed}
 use Rattle.dirac_plan.specs.Plan.{plan}
 use Rattle.dirac_plan.specs.Waiting.{number_of}
@@ -33,7 +33,7 @@ by_number (suc n) pictures = by_number n pictures ++ option_to_list (listed pict
 -- pushed in this order, pictures leave by rising number, and of a front of them as many before its end as it has beyond
 -- four
 pub record AreDelivered (pictures : List Picture) : Type 0 where
-  pub all : flush (map as_waiting pictures) ≡ by_number (length pictures) pictures
+  pub all : in_delivery_order (map as_waiting pictures) ≡ by_number (length pictures) pictures
   pub front : (front rest : List Picture) → pictures ≡ front ++ rest
       → deliver (map as_waiting front) ≡ by_number (length front - 4) pictures
 

@@ -4,13 +4,13 @@ use Rattle.std.specs.List.{AllByRecursion}
 use Rattle.dirac_common.specs.declared.picture.Picture.{Picture}
 use Rattle.dirac_types.specs.declared.settings.Settings.{Settings}
 use Rattle.dirac_types.specs.Settings.{IsAccepted}
-use Rattle.dirac_refs.specs.Delivery.{flush}
+use Rattle.dirac_refs.specs.Delivery.{in_delivery_order}
 use Rattle.dirac_common.specs.Codes.{is_intra}
 use Rattle.dirac_plan.specs.declared.planned.Planned.{Planned}
 use Rattle.dirac_plan.specs.Plan.{plan}
 use Rattle.dirac_plan_laws.specs.Headers.{IsPlanned}
 use Rattle.dirac_plan_laws.specs.Order.{as_waiting, by_number}
-use Rattle.dirac_plan_laws.specs.References.{AreFound, ArePlanned}
+use Rattle.dirac_plan_laws.specs.References.{ReferencesAreFound, ArePlanned}
 
 -- a plan begins with an intra picture of number 0
 abbrev pub BeginsPlan : List Planned → Type 0
@@ -25,9 +25,9 @@ pub record IsPlan (n : ℕ) (planned : List Planned) : Type 0 where
   pub below : AllByRecursion (λ (p : Planned). p.number < n) planned
   pub all : (k : ℕ) → k < n → (i : ℕ) × (p : Planned) × (slice_get planned i ≡ Some p) × (p.number ≡ k)
   pub begins : BeginsPlan planned
-  pub found : (pictures : List Picture) → ArePlanned planned pictures → AreFound [] planned pictures
+  pub found : (pictures : List Picture) → ArePlanned planned pictures → ReferencesAreFound [] planned pictures
   pub order : (pictures : List Picture) → ArePlanned planned pictures
-      → flush (map as_waiting pictures) ≡ by_number n pictures
+      → in_delivery_order (map as_waiting pictures) ≡ by_number n pictures
 
 -- so is every plan of accepted settings
 abbrev pub PlansCanBeCoded : Type 0

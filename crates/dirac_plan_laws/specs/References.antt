@@ -28,10 +28,11 @@ abbrev pub AreListed : List Picture → Planned → Type 0
 AreListed list p = are_listed list (header_of p) ≡ true
 
 -- each planned picture finds what it refers to in the list, where those before it become these pictures
-abbrev pub AreFound : List Picture → List Planned → List Picture → Type 0
-AreFound list [] pictures = ⊤
-AreFound list (p ∷ planned) [] = ⊤
-AreFound list (p ∷ planned) (coded ∷ pictures) = AreListed list p × AreFound (list_with list p coded) planned pictures
+abbrev pub ReferencesAreFound : List Picture → List Planned → List Picture → Type 0
+ReferencesAreFound list [] pictures = ⊤
+ReferencesAreFound list (p ∷ planned) [] = ⊤
+ReferencesAreFound list (p ∷ planned) (coded ∷ pictures) =
+    AreListed list p × ReferencesAreFound (list_with list p coded) planned pictures
 
 -- each finds it, whatever pictures of their numbers those before it become
 abbrev pub AreServed : List Picture → List Planned → Type 0
@@ -62,3 +63,10 @@ ThreeAreListed =
     (s : Settings) (n : ℕ) (before after : List Planned) (pictures : List Picture)
     → IsAccepted s → s.alike ≡ 1 → s.fields ≡ 0 → plan n s ≡ before ++ after → ArePlanned before pictures
     → length (refs_of (commits before pictures)) ≤ 3
+
+-- of fields of a stream that is to be shown alike no more than six are listed at any time
+abbrev pub SixAreListed : Type 0
+SixAreListed =
+    (s : Settings) (n : ℕ) (before after : List Planned) (pictures : List Picture)
+    → IsAccepted s → s.alike ≡ 1 → s.fields ≡ 1 → plan n s ≡ before ++ after → ArePlanned before pictures
+    → length (refs_of (commits before pictures)) ≤ 6

@@ -2,7 +2,8 @@ ghost use Rattle.dirac_plan_laws.specs.Coding.{AcceptsCoding, EndsCoding, GoesOn
 ghost use Rattle.dirac_plan_laws.specs.Lasting.{ItemsLast};
 ghost use Rattle.dirac_plan_laws.specs.Order.{NearOrderIsDelivered, PlansAreDelivered, PlansAreNear};
 ghost use Rattle.dirac_plan_laws.specs.Plans.{PlansCanBeCoded};
-ghost use Rattle.dirac_plan_laws.specs.References.{ReferencesAreKept, ReferencesAreListed, ThreeAreListed};
+ghost use Rattle.dirac_plan_laws.specs.References.{ReferencesAreKept, ReferencesAreListed, SixAreListed};
+ghost use Rattle.dirac_plan_laws.specs.References.{ThreeAreListed};
 
 use dirac_refs::least_leaves_first;
 
@@ -10,8 +11,9 @@ use dirac_refs::least_leaves_first;
 pub fn references_are_listed()
     ensures served { ReferencesAreListed }
     ensures kept { ReferencesAreKept }
-    // Where frames are to be shown alike, no more than three are listed.
+    // Where frames are to be shown alike, no more than three are listed, of fields no more than six.
     ensures three { ThreeAreListed }
+    ensures six { SixAreListed }
 {}
 
 /// Pictures that are coded in the order of a plan are delivered by rising number.

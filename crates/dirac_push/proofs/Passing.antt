@@ -5,7 +5,7 @@ use Rattle.dirac_common.specs.declared.faults.Fault.{Fault}
 use Rattle.dirac_common.specs.declared.picture.Picture.{Picture}
 use Rattle.dirac_units.specs.declared.unit.StreamEnd.{StreamEnd}
 use Rattle.dirac_units.specs.declared.unit.StreamEnd.TheVariants as stream_end
-use Rattle.dirac_units.specs.Progress.{Progress}
+use Rattle.dirac_units.specs.Progress.{CuttingProgress}
 use Rattle.dirac_decode.specs.declared.answers.Next.{Next}
 use Rattle.dirac_decode.specs.declared.answers.Next.TheVariants as next
 use Rattle.dirac_decode.specs.Decoding.{Comes, ComesBehind, Decoding, Remains}
@@ -13,7 +13,7 @@ use Rattle.dirac_content.specs.Shown.{IsShown, Outcome, with_front}
 use Rattle.dirac_decode.specs.Stepping.{DueGives, IsThere, IsWholeUnit, StepGives, StepGivesBefore}
 use Rattle.dirac_push.specs.declared.answer.Answer.{Answer}
 use Rattle.dirac_push.specs.declared.answer.Answer.TheVariants as answers
-use Rattle.dirac_push.specs.Pushing.{MayFollow, Passes, PassesOn, PushGives, Pushed, Repeats, RepeatsMet, ShowsToItsEnd, ShowsToItsFault, TurnGives, begun}
+use Rattle.dirac_push.specs.Pushing.{MayFollow, PushPasses, PassesOn, PushGives, Pushed, RepeatsAnswer, RepeatsMet, ShowsToItsEnd, ShowsToItsFault, TurnGives, push_begun}
 
 none_and_none : (b : Pushed) (c : Pushed) (sent' more : List ℕ) → ((b.is_finished ≡ true) → (c.is_finished ≡ true) × (sent' ≡ [])) → MayFollow c more → MayFollow b (sent' ++ more)
 none_and_none b c sent' more finished may e =
@@ -38,7 +38,7 @@ passes_on a b c sent sent' given given' first second = record {
 }
 
 -- the decoder and the bytes there stay
-pub passes_same : (old new : Pushed) → new.decoder ≡ old.decoder → new.there ≡ old.there → (old.is_finished ≡ true → new.is_finished ≡ true) → Passes old new [] []
+pub passes_same : (old new : Pushed) → new.decoder ≡ old.decoder → new.there ≡ old.there → (old.is_finished ≡ true → new.is_finished ≡ true) → PushPasses old new [] []
 passes_same old new same there finished = record {
   leads = λ more may o comes.
       subst (λ (d : Decoding). Comes d (Some (old.there ++ more)) o) same
@@ -47,7 +47,7 @@ passes_same old new same there finished = record {
 }
 
 -- bytes were sent
-pub passes_sent : (old new : Pushed) (bytes : List ℕ) → new.decoder ≡ old.decoder → new.there ≡ old.there ++ bytes → old.is_finished ≡ false → Passes old new bytes []
+pub passes_sent : (old new : Pushed) (bytes : List ℕ) → new.decoder ≡ old.decoder → new.there ≡ old.there ++ bytes → old.is_finished ≡ false → PushPasses old new bytes []
 passes_sent old new bytes same there unfinished = record {
   leads = λ more may o comes.
       subst (λ (d : Decoding). Comes d (Some (old.there ++ (bytes ++ more))) o) same
@@ -56,7 +56,7 @@ passes_sent old new bytes same there unfinished = record {
 }
 
 -- a due picture left
-pub passes_due : (old new : Pushed) (p : Picture) → DueGives (Some p) old.decoder new.decoder → new.there ≡ old.there → new.is_finished ≡ old.is_finished → Passes old new [] (p ∷ [])
+pub passes_due : (old new : Pushed) (p : Picture) → DueGives (Some p) old.decoder new.decoder → new.there ≡ old.there → new.is_finished ≡ old.is_finished → PushPasses old new [] (p ∷ [])
 passes_due old new p due there finished = record {
   leads = λ more may o comes.
       let at : Comes new.decoder (Some (old.there ++ more)) o = subst (λ (xs : List ℕ). Comes new.decoder (Some (xs ++ more)) o) there comes in
@@ -80,7 +80,7 @@ lead_by true old new given is same plain before more may o comes =
 lead_by false old new given is same plain before more may o comes = before refl more o comes
 
 pub passes_by : (old new : Pushed) (given : List Picture) → new.is_finished ≡ old.is_finished → ComesBehind old.decoder new.decoder (Some old.there) (Some new.there) given
-    → (old.is_finished ≡ false → (more : List ℕ) → ComesBehind old.decoder new.decoder (Some (old.there ++ more)) (Some (new.there ++ more)) given) → Passes old new [] given
+    → (old.is_finished ≡ false → (more : List ℕ) → ComesBehind old.decoder new.decoder (Some (old.there ++ more)) (Some (new.there ++ more)) given) → PushPasses old new [] given
 passes_by old new given same plain before = record {
   leads = lead_by old.is_finished old new given refl same plain before;
   finished = λ e. (same ∙ e, refl);
@@ -88,16 +88,16 @@ passes_by old new given same plain before = record {
 
 -- what a step says of the whole stream
 abbrev pub StepPasses : Option Next → Pushed → Pushed → Type 0
-StepPasses None old new = Passes old new [] []
-StepPasses (Some (next.Shown p)) old new = Passes old new [] (p ∷ [])
-StepPasses (Some next.End) old new = Passes old new [] []
-StepPasses (Some (next.Fault fault)) old new = Passes old new [] []
+StepPasses None old new = PushPasses old new [] []
+StepPasses (Some (next.Shown p)) old new = PushPasses old new [] (p ∷ [])
+StepPasses (Some next.End) old new = PushPasses old new [] []
+StepPasses (Some (next.Fault fault)) old new = PushPasses old new [] []
 StepPasses (Some next.ReadFault) old new = ⊤
 StepPasses (Some next.NoMemory) old new = ⊤
 StepPasses (Some next.Stopped) old new = ⊤
 
 -- no byte is ahead of those that are there
-there_by : (units : Progress) (bytes : List ℕ) → units.ahead ≡ [] → IsWholeUnit bytes → IsThere units (Some bytes)
+there_by : (units : CuttingProgress) (bytes : List ℕ) → units.ahead ≡ [] → IsWholeUnit bytes → IsThere units (Some bytes)
 there_by units bytes none is = subst (λ (ahead : List ℕ). IsWholeUnit (ahead ++ bytes)) (sym none) is
 
 pub step_passes : (answer : Option Next) (old new : Pushed) → StepGives answer old.decoder new.decoder (Some old.there) (Some new.there)
@@ -116,7 +116,7 @@ step_passes (Some next.NoMemory) old new gives before none there same = tt
 step_passes (Some next.Stopped) old new gives before none there same = tt
 
 -- an answer, behind turns that gave none
-pub gives_behind : (answer : Answer) (old mid new : Pushed) → Passes old mid [] [] → mid.decoder.given ≡ old.decoder.given → (mid.decoder.stream_end ≡ stream_end.Stopped → ⊥) → PushGives answer mid new → PushGives answer old new
+pub gives_behind : (answer : Answer) (old mid new : Pushed) → PushPasses old mid [] [] → mid.decoder.given ≡ old.decoder.given → (mid.decoder.stream_end ≡ stream_end.Stopped → ⊥) → PushGives answer mid new → PushGives answer old new
 gives_behind answers.Shown old mid new first same moving gives =
     (gives.0, gives.1, passes_on old mid new [] [] [] (gives.0 ∷ []) first gives.2, gives.3 ∙ ap (λ n. n + 1) same, gives.4)
 gives_behind answers.Needs old mid new first same moving gives =
@@ -132,17 +132,17 @@ gives_behind answers.Stopped old mid new first same moving gives = absurd (movin
 abbrev pub Still : Pushed → Pushed → Type 0
 Still a mid = (a.decoder.stream_end ≡ stream_end.Going → ⊥) → mid ≡ record a { shown = None }
 
-repeats_by : (m : StreamEnd) (answer : Answer) (a mid new : Pushed) → a.decoder.stream_end ≡ m → Still a mid → Repeats answer mid new → Repeats answer a new
+repeats_by : (m : StreamEnd) (answer : Answer) (a mid new : Pushed) → a.decoder.stream_end ≡ m → Still a mid → RepeatsAnswer answer mid new → RepeatsAnswer answer a new
 repeats_by stream_end.Going answer a mid new is still repeats =
     subst (λ (x : StreamEnd). RepeatsMet x answer a.decoder.due (new ≡ record a { shown = None })) (sym is) tt
 repeats_by stream_end.Ended answer a mid new is still repeats =
-    subst (λ (x : Pushed). Repeats answer x new) (still (λ (e : a.decoder.stream_end ≡ stream_end.Going). cc)) repeats
+    subst (λ (x : Pushed). RepeatsAnswer answer x new) (still (λ (e : a.decoder.stream_end ≡ stream_end.Going). cc)) repeats
 repeats_by (stream_end.Faulted fault) answer a mid new is still repeats =
-    subst (λ (x : Pushed). Repeats answer x new) (still (λ (e : a.decoder.stream_end ≡ stream_end.Going). cc)) repeats
+    subst (λ (x : Pushed). RepeatsAnswer answer x new) (still (λ (e : a.decoder.stream_end ≡ stream_end.Going). cc)) repeats
 repeats_by stream_end.Stopped answer a mid new is still repeats =
-    subst (λ (x : Pushed). Repeats answer x new) (still (λ (e : a.decoder.stream_end ≡ stream_end.Going). cc)) repeats
+    subst (λ (x : Pushed). RepeatsAnswer answer x new) (still (λ (e : a.decoder.stream_end ≡ stream_end.Going). cc)) repeats
 
-pub repeats_behind : (answer : Answer) (a mid new : Pushed) → Still a mid → Repeats answer mid new → Repeats answer a new
+pub repeats_behind : (answer : Answer) (a mid new : Pushed) → Still a mid → RepeatsAnswer answer mid new → RepeatsAnswer answer a new
 repeats_behind answer a mid new still repeats = repeats_by a.decoder.stream_end answer a mid new refl still repeats
 
 -- where a later turn found nothing met, nothing was met before
@@ -205,7 +205,7 @@ turn_taken answer old new d due gives =
     subst (λ (x : Decoding). TurnGives answer (record old { decoder = x }) new) due.1 gives
 
 -- what the bytes sent show, where nothing is due and this was met
-shows_by : (p : Pushed) (sent more : List ℕ) (given : List Picture) (o : Outcome) → Passes begun p sent given → p.decoder.due ≡ [] → MayFollow p more → o.shown ≡ []
+shows_by : (p : Pushed) (sent more : List ℕ) (given : List Picture) (o : Outcome) → PushPasses push_begun p sent given → p.decoder.due ≡ [] → MayFollow p more → o.shown ≡ []
     → Remains p.decoder.stream_end p.decoder.state p.decoder.units (Some (p.there ++ more)) o → IsShown (sent ++ more) (record o { shown = given })
 shows_by p sent more given o passes none may empty remains =
     let here : Comes p.decoder (Some (p.there ++ more)) o = record {

@@ -12,7 +12,7 @@ use Rattle.dirac_units.specs.Info.{span_of}
 use Rattle.dirac_decode.specs.declared.answers.Next.{Next}
 use Rattle.dirac_content.specs.declared.opened.Opened.{Opened}
 use Rattle.dirac_decode.specs.Decoding.{Decoding}
-use Rattle.dirac_decode.specs.Stepping.{DueGives, FaultsAt, TakesAs, TakesOne, TakesUnit, given_by, sequence_of}
+use Rattle.dirac_decode.specs.Stepping.{DueGives, FaultsAt, TakesAs, TakesOne, StepTakesUnit, given_by, opened_sequence}
 use Rattle.dirac_content.specs.StreamState.{StreamState, StreamStep, unit_step}
 use Rattle.dirac_push.specs.Pushing.{AreTaken, IsFormat, MeetsBehind, Pushed, TakesUnits, latest, opened_last, opened_on}
 
@@ -26,10 +26,10 @@ taken_on p q r s t v bytes behind rest [] ws first second =
 taken_on p q r s t v bytes behind rest (u ∷ us) ws first second =
     (first.0, first.1, first.2, taken_on (after p u.info) q r first.0.state t v (drop (span_of u.info) bytes) behind rest us ws first.3 second)
 
-last_by : (before : Option Sequence) (state : StreamState) (unit : UnitText) (units : List UnitText) (m : StreamStep) → unit_step state unit.info.code unit.payload ≡ Ok m → opened_last before state (unit ∷ units) ≡ opened_last (latest (sequence_of m.state.opened) before) m.state units
+last_by : (before : Option Sequence) (state : StreamState) (unit : UnitText) (units : List UnitText) (m : StreamStep) → unit_step state unit.info.code unit.payload ≡ Ok m → opened_last before state (unit ∷ units) ≡ opened_last (latest (opened_sequence m.state.opened) before) m.state units
 unfolding opened_last
 last_by before state unit units m is =
-    ap (opened_on (λ next. opened_last (latest (sequence_of next.opened) before) next units) before) is
+    ap (opened_on (λ next. opened_last (latest (opened_sequence next.opened) before) next units) before) is
 
 last_none : (before : Option Sequence) (state : StreamState) → opened_last before state [] ≡ before
 unfolding opened_last
@@ -40,7 +40,7 @@ last_on p q s t bytes behind [] ws before first =
     ap (λ x. opened_last before x ws) first.1 ∙ ap (λ f. opened_last f t ws) (sym (last_none before s))
 last_on p q s t bytes behind (u ∷ us) ws before first =
     last_by before s u (us ++ ws) first.0 first.2
-    ∙ last_on (after p u.info) q first.0.state t (drop (span_of u.info) bytes) behind us ws (latest (sequence_of first.0.state.opened) before) first.3
+    ∙ last_on (after p u.info) q first.0.state t (drop (span_of u.info) bytes) behind us ws (latest (opened_sequence first.0.state.opened) before) first.3
     ∙ ap (λ f. opened_last f t ws) (sym (last_by before s u us first.0 first.2))
 
 -- ---- a call that takes no unit
@@ -78,7 +78,7 @@ takes_taken old new d due takes = subst (λ (x : Decoding). TakesUnits (record o
 
 -- ---- a call that takes one
 
-latest_same : (o : Option Opened) (format : Option Sequence) → IsFormat o format → latest (sequence_of o) format ≡ format
+latest_same : (o : Option Opened) (format : Option Sequence) → IsFormat o format → latest (opened_sequence o) format ≡ format
 latest_same None format is = refl
 latest_same (Some o) format is = sym is
 
@@ -94,20 +94,20 @@ held_at ahead there rest none is =
 
 -- the course stays, so no other sequence was opened
 stays : (old new : Pushed) (m : StreamEnd) → old.decoder.stream_end ≡ stream_end.Going → new.decoder.stream_end ≡ m → new.decoder.state.opened ≡ old.decoder.state.opened → IsFormat old.decoder.state.opened old.format
-    → new.format ≡ latest (sequence_of new.decoder.state.opened) old.format → MeetsBehind m new old.decoder.units.unit_place old.decoder.state old.there → TakesUnits old new
+    → new.format ≡ latest (opened_sequence new.decoder.state.opened) old.format → MeetsBehind m new old.decoder.units.unit_place old.decoder.state old.there → TakesUnits old new
 stays old new m going is opened kept format meets = record {
   units = [];
   unit_place = old.decoder.units.unit_place;
   state = old.decoder.state;
   rest = old.there;
   taken = (refl, refl, refl);
-  format = format ∙ ap (λ o. latest (sequence_of o) old.format) opened ∙ latest_same old.decoder.state.opened old.format kept ∙ sym (last_none old.format old.decoder.state);
+  format = format ∙ ap (λ o. latest (opened_sequence o) old.format) opened ∙ latest_same old.decoder.state.opened old.format kept ∙ sym (last_none old.format old.decoder.state);
   met = λ e. subst (λ (x : StreamEnd). MeetsBehind x new old.decoder.units.unit_place old.decoder.state old.there) (sym is) meets;
   still = λ ne. absurd (ne going);
 }
 
-one_taken : (old new : Pushed) (gone : List Picture) → old.decoder.stream_end ≡ stream_end.Going → new.decoder.stream_end ≡ stream_end.Going → new.decoder.units.ahead ≡ [] → new.format ≡ latest (sequence_of new.decoder.state.opened) old.format
-    → TakesUnit old.decoder.units.unit_place new.decoder.units.unit_place old.decoder.state (record { state = new.decoder.state; gone = gone }) old.there (prepend_known new.decoder.units.ahead (Some new.there)) → TakesUnits old new
+one_taken : (old new : Pushed) (gone : List Picture) → old.decoder.stream_end ≡ stream_end.Going → new.decoder.stream_end ≡ stream_end.Going → new.decoder.units.ahead ≡ [] → new.format ≡ latest (opened_sequence new.decoder.state.opened) old.format
+    → StepTakesUnit old.decoder.units.unit_place new.decoder.units.unit_place old.decoder.state (record { state = new.decoder.state; gone = gone }) old.there (prepend_known new.decoder.units.ahead (Some new.there)) → TakesUnits old new
 one_taken old new gone going goes none format t =
     let m : StreamStep = record { state = new.decoder.state; gone = gone } in
     record {
@@ -116,16 +116,16 @@ one_taken old new gone going goes none format t =
       state = new.decoder.state;
       rest = new.there;
       taken = (m, t.front, t.content, (sym t.next, refl, held_at new.decoder.units.ahead new.there (drop (span_of t.unit.info) old.there) none t.holds));
-      format = format ∙ sym (last_by old.format old.decoder.state t.unit [] m t.content ∙ last_none (latest (sequence_of new.decoder.state.opened) old.format) new.decoder.state);
+      format = format ∙ sym (last_by old.format old.decoder.state t.unit [] m t.content ∙ last_none (latest (opened_sequence new.decoder.state.opened) old.format) new.decoder.state);
       met = λ e. meets_going new.decoder.stream_end new new.decoder.units.unit_place new.decoder.state new.there goes refl refl refl;
       still = λ ne. absurd (ne going);
     }
 
 takes_by : (m : StreamEnd) (answer : Option Next) (old new : Pushed) → new.decoder.stream_end ≡ m → old.decoder.stream_end ≡ stream_end.Going → old.decoder.units.ahead ≡ [] → new.decoder.units.ahead ≡ [] → IsFormat old.decoder.state.opened old.format
-    → new.format ≡ latest (sequence_of new.decoder.state.opened) old.format → TakesAs m answer old.decoder new.decoder (Some old.there) (Some new.there) → TakesUnits old new
+    → new.format ≡ latest (opened_sequence new.decoder.state.opened) old.format → TakesAs m answer old.decoder new.decoder (Some old.there) (Some new.there) → TakesUnits old new
 takes_by stream_end.Going answer old new is going before none kept format takes =
     one_taken old new (given_by answer ++ new.decoder.due) going is none format
-    (told_at old.decoder.units.ahead old.there (λ bytes. TakesUnit old.decoder.units.unit_place new.decoder.units.unit_place old.decoder.state (record { state = new.decoder.state; gone = given_by answer ++ new.decoder.due }) bytes (prepend_known new.decoder.units.ahead (Some new.there))) before takes)
+    (told_at old.decoder.units.ahead old.there (λ bytes. StepTakesUnit old.decoder.units.unit_place new.decoder.units.unit_place old.decoder.state (record { state = new.decoder.state; gone = given_by answer ++ new.decoder.due }) bytes (prepend_known new.decoder.units.ahead (Some new.there))) before takes)
 takes_by stream_end.Ended answer old new is going before none kept format takes =
     stays old new stream_end.Ended going is (ap (λ (s : StreamState). s.opened) takes.0.0) kept format
     (told_at old.decoder.units.ahead old.there (λ bytes. front_of old.decoder.units.unit_place bytes ≡ Err None) before takes.1)
@@ -137,7 +137,7 @@ takes_by stream_end.Stopped answer old new is going before none kept format take
 
 -- a step of the decoder, where nothing is due
 pub takes_one : (answer : Option Next) (old new : Pushed) → old.decoder.stream_end ≡ stream_end.Going → old.decoder.due ≡ [] → old.decoder.units.ahead ≡ [] → new.decoder.units.ahead ≡ [] → IsFormat old.decoder.state.opened old.format
-    → new.format ≡ latest (sequence_of new.decoder.state.opened) old.format → TakesOne answer old.decoder new.decoder (Some old.there) (Some new.there) → TakesUnits old new
+    → new.format ≡ latest (opened_sequence new.decoder.state.opened) old.format → TakesOne answer old.decoder new.decoder (Some old.there) (Some new.there) → TakesUnits old new
 takes_one answer old new going none_due before none kept format one =
     takes_by new.decoder.stream_end answer old new refl going before none kept format (one.unit going none_due)
 

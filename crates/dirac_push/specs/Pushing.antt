@@ -11,9 +11,9 @@ use Rattle.dirac_units.specs.declared.unit_place.UnitPlace.{UnitPlace}
 use Rattle.dirac_units.specs.Cut.{UnitText, after, front_of}
 use Rattle.dirac_units.specs.Info.{span_of}
 use Rattle.dirac_content.specs.declared.opened.Opened.{Opened}
-use Rattle.dirac_decode.specs.Decoding.{ComesBehind, Decoding, begun as decoding_begun}
+use Rattle.dirac_decode.specs.Decoding.{ComesBehind, Decoding, decoder_begun}
 use Rattle.dirac_content.specs.Shown.{IsShown}
-use Rattle.dirac_decode.specs.Stepping.{FaultsAt, IsAtFront, IsFurther, IsWholeUnit, sequence_of}
+use Rattle.dirac_decode.specs.Stepping.{FaultsAt, IsAtFront, IsFurther, IsWholeUnit, opened_sequence}
 use Rattle.dirac_content.specs.StreamState.{StreamState, StreamStep, unit_step}
 use Rattle.dirac_push.specs.declared.answer.Answer.{Answer}
 use Rattle.dirac_push.specs.declared.answer.Answer.TheVariants as answers
@@ -29,9 +29,9 @@ pub record Pushed : Type 0 where
   pub format : Option Sequence
 
 -- before the first byte
-abbrev pub begun : Pushed
-begun = record {
-  decoder = decoding_begun;
+abbrev pub push_begun : Pushed
+push_begun = record {
+  decoder = decoder_begun;
   there = [];
   room = 2 ^ 63 - 1;
   is_finished = false;
@@ -44,7 +44,7 @@ abbrev pub MayFollow : Pushed → List ℕ → Type 0
 MayFollow p more = p.is_finished ≡ true → more ≡ []
 
 -- these bytes were sent and these pictures given: whatever follows, what is then still to come came behind the pictures
-pub record Passes (old new : Pushed) (sent : List ℕ) (given : List Picture) : Type 0 where
+pub record PushPasses (old new : Pushed) (sent : List ℕ) (given : List Picture) : Type 0 where
   pub leads : (more : List ℕ) → MayFollow new more
       → ComesBehind old.decoder new.decoder (Some (old.there ++ (sent ++ more))) (Some (new.there ++ more)) given
   pub finished : old.is_finished ≡ true → (new.is_finished ≡ true) × (sent ≡ [])
@@ -59,15 +59,15 @@ pub record NeedsMore (p : Pushed) : Type 0 where
 -- what an answer says of the decoder before and behind it
 abbrev pub PushGives : Answer → Pushed → Pushed → Type 0
 PushGives answers.Shown old new =
-    (p : Picture) × (new.shown ≡ Some p) × Passes old new [] (p ∷ [])
+    (p : Picture) × (new.shown ≡ Some p) × PushPasses old new [] (p ∷ [])
     × (new.decoder.given ≡ old.decoder.given + 1) × (new.decoder.stream_end ≡ stream_end.Stopped → ⊥)
 PushGives answers.Needs old new =
-    Passes old new [] [] × (new.decoder.given ≡ old.decoder.given) × (new.shown ≡ None) × NeedsMore new
+    PushPasses old new [] [] × (new.decoder.given ≡ old.decoder.given) × (new.shown ≡ None) × NeedsMore new
 PushGives answers.End old new =
-    Passes old new [] [] × (new.decoder.given ≡ old.decoder.given) × (new.shown ≡ None)
+    PushPasses old new [] [] × (new.decoder.given ≡ old.decoder.given) × (new.shown ≡ None)
     × (new.decoder.stream_end ≡ stream_end.Ended) × (new.decoder.due ≡ [])
 PushGives (answers.Fault fault) old new =
-    Passes old new [] [] × (new.decoder.given ≡ old.decoder.given) × (new.shown ≡ None)
+    PushPasses old new [] [] × (new.decoder.given ≡ old.decoder.given) × (new.shown ≡ None)
     × (new.decoder.stream_end ≡ stream_end.Faulted fault) × (new.decoder.due ≡ [])
 PushGives answers.NoMemory old new =
     (new.decoder.given ≡ old.decoder.given) × (new.shown ≡ None) × (new.decoder.stream_end ≡ stream_end.Stopped)
@@ -82,8 +82,9 @@ RepeatsMet (stream_end.Faulted fault) answer due Same = due ≡ [] → (answer �
 RepeatsMet stream_end.Stopped answer due Same = (answer ≡ answers.Stopped) × Same
 
 -- once nothing is due, what was met is answered again and nothing changes but the picture shown; a stop at once
-abbrev pub Repeats : Answer → Pushed → Pushed → Type 0
-Repeats answer old new = RepeatsMet old.decoder.stream_end answer old.decoder.due (new ≡ record old { shown = None })
+abbrev pub RepeatsAnswer : Answer → Pushed → Pushed → Type 0
+RepeatsAnswer answer old new =
+    RepeatsMet old.decoder.stream_end answer old.decoder.due (new ≡ record old { shown = None })
 
 -- the sequence that is open is the one that was opened last
 abbrev pub IsFormat : Option Opened → Option Sequence → Type 0
@@ -104,7 +105,7 @@ opened_on rest before (Err refusal) = before
 unfoldable pub opened_last : Option Sequence → StreamState → List UnitText → Option Sequence
 opened_last before state [] = before
 opened_last before state (unit ∷ units) =
-    opened_on (λ next. opened_last (latest (sequence_of next.opened) before) next units) before
+    opened_on (λ next. opened_last (latest (opened_sequence next.opened) before) next units) before
     (unit_step state unit.info.code unit.payload)
 
 -- these units stand at the front of these bytes, and each is accepted; behind them the course is this one, and these
@@ -140,7 +141,7 @@ pub record TakesUnits (old new : Pushed) : Type 0 where
 -- what one turn says: at `None` a unit was taken that showed nothing, or the end or a fault was met
 abbrev pub TurnGives : Option Answer → Pushed → Pushed → Type 0
 TurnGives None old new =
-    Passes old new [] [] × (new.decoder.given ≡ old.decoder.given) × (new.shown ≡ None)
+    PushPasses old new [] [] × (new.decoder.given ≡ old.decoder.given) × (new.shown ≡ None)
     × (old.decoder.stream_end ≡ stream_end.Going) × (new.decoder.stream_end ≡ stream_end.Stopped → ⊥)
     × IsFurther old.decoder new.decoder
 TurnGives (Some answer) old new = PushGives answer old new
@@ -149,19 +150,19 @@ TurnGives (Some answer) old new = PushGives answer old new
 abbrev pub PassesOn : Type 0
 PassesOn =
     (a b c : Pushed) (sent sent' : List ℕ) (given given' : List Picture)
-    → Passes a b sent given → Passes b c sent' given' → Passes a c (sent ++ sent') (given ++ given')
+    → PushPasses a b sent given → PushPasses b c sent' given' → PushPasses a c (sent ++ sent') (given ++ given')
 
 -- from the first byte on: at the end the pictures given are those that the bytes sent show
 abbrev pub ShowsToItsEnd : Type 0
 ShowsToItsEnd =
     (p : Pushed) (sent : List ℕ) (given : List Picture)
-    → Passes begun p sent given → p.decoder.due ≡ [] → p.decoder.stream_end ≡ stream_end.Ended
+    → PushPasses push_begun p sent given → p.decoder.due ≡ [] → p.decoder.stream_end ≡ stream_end.Ended
     → IsShown sent (record { shown = given; most = p.decoder.state.most; end = None })
 
 -- and at a fault they and it are what the bytes sent show, whatever may follow
 abbrev pub ShowsToItsFault : Type 0
 ShowsToItsFault =
     (p : Pushed) (sent more : List ℕ) (given : List Picture) (fault : Fault)
-    → Passes begun p sent given → p.decoder.due ≡ [] → p.decoder.stream_end ≡ stream_end.Faulted fault
+    → PushPasses push_begun p sent given → p.decoder.due ≡ [] → p.decoder.stream_end ≡ stream_end.Faulted fault
     → MayFollow p more
     → IsShown (sent ++ more) (record { shown = given; most = p.decoder.state.most; end = Some fault })

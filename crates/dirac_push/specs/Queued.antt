@@ -9,8 +9,8 @@ pub record Queued : Type 0 where
   pub room : ℕ
 
 -- before the first byte
-abbrev pub begun : Queued
-begun = record { bytes = []; room = 2 ^ 63 - 1 }
+abbrev pub queue_begun : Queued
+queue_begun = record { bytes = []; room = 2 ^ 63 - 1 }
 
 -- how many bytes may still be taken, as a number below 2^63
 abbrev pub room_of : Queued → ℕ

@@ -3,7 +3,8 @@ ghost use Rattle.std.specs.Prelude.{IfSome, None, Some, Err, Option};
 ghost use Rattle.std.specs.Prelude.{option_map};
 ghost use Rattle.std.specs.Borrow.{Bor};
 ghost use Rattle.dirac_decode.specs.Stepping.{IsWholeUnit};
-ghost use Rattle.dirac_push.specs.Pushing.{begun, IsFormat, Passes, PushGives, Repeats, TakesUnits, TurnGives};
+ghost use Rattle.dirac_push.specs.Pushing.{push_begun, IsFormat, PushPasses, PushGives, RepeatsAnswer, TakesUnits};
+ghost use Rattle.dirac_push.specs.Pushing.{TurnGives};
 ghost use Rattle.dirac_push.specs.Pushing as pushing;
 
 use crate::answer::{Answer, Unsent};
@@ -48,7 +49,7 @@ impl Model for PushDecoder {
 impl PushDecoder {
     /// A decoder before the first byte.
     pub fn new(alloc: Global) -> PushDecoder
-        ensures { result ≡ begun }
+        ensures { result ≡ push_begun }
     {
         PushDecoder {
             decoder: Decoder::new(alloc),
@@ -61,7 +62,7 @@ impl PushDecoder {
 
     /// Adds bytes behind those that were sent: any number, cut anywhere. They are copied; after an error none is.
     pub fn send(&mut self, bytes: &[u8]) -> Result<(), Unsent>
-        ensures sent { IfOk result (λ _. Passes self.old self.new bytes.now []) }
+        ensures sent { IfOk result (λ _. PushPasses self.old self.new bytes.now []) }
         ensures added { IfOk result (λ _. self.new
             ≡ record self.old { there = self.old.there ++ bytes.now; room = self.new.room }) }
         ensures room { IfOk result (λ _. self.new.room + length bytes.now ≡ self.old.room) }
@@ -80,7 +81,7 @@ impl PushDecoder {
     /// Says that no more bytes follow.
     pub fn finish(&mut self)
         ensures finished { self.new ≡ record self.old { is_finished = true } }
-        ensures passes { Passes self.old self.new [] [] }
+        ensures passes { PushPasses self.old self.new [] [] }
     {
         self.is_finished = true;
     }
@@ -109,7 +110,7 @@ impl PushDecoder {
         ensures gives { PushGives result self.old self.new }
         // Which units were taken, and that the format is that of the sequence opened last among them.
         ensures takes { TakesUnits self.old self.new }
-        ensures repeats { Repeats result self.old self.new }
+        ensures repeats { RepeatsAnswer result self.old self.new }
         ensures finished_stays { self.new.is_finished ≡ self.old.is_finished }
     {
         self.shown = None;
@@ -130,7 +131,7 @@ impl PushDecoder {
         requires none_shown { self.old.shown ≡ None }
         ensures gives { TurnGives result self.old self.new }
         ensures takes { TakesUnits self.old self.new }
-        ensures repeats { IfSome result (λ answer. Repeats answer self.old self.new) }
+        ensures repeats { IfSome result (λ answer. RepeatsAnswer answer self.old self.new) }
         ensures fits { self.new.decoder.units.unit_place.at < 2 ^ 63 }
         ensures finished_stays { self.new.is_finished ≡ self.old.is_finished }
     {

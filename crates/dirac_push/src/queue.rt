@@ -4,7 +4,7 @@ ghost use Rattle.dirac_io.specs.Faults.{Rose};
 ghost use Rattle.dirac_io.specs.Reading.{IfBytes, GivesFront, MeetsEnd};
 ghost use Rattle.std.specs.Io.KnownBytes.{Keeps};
 ghost use Rattle.dirac_decode.specs.Stepping.{IsWholeUnit};
-ghost use Rattle.dirac_push.specs.Queued.{begun, none_fits, room_of, room_fits};
+ghost use Rattle.dirac_push.specs.Queued.{queue_begun, none_fits, room_of, room_fits};
 
 use dirac_common::NoMemory;
 use dirac_io::{Got, Source};
@@ -36,7 +36,7 @@ impl Model for Queue {
 
 impl Queue {
     pub(crate) fn new(alloc: Global) -> Queue
-        ensures { result ≡ begun }
+        ensures { result ≡ queue_begun }
     {
         Queue {
             bytes: Vec::new(alloc),

@@ -6,7 +6,7 @@ use Rattle.std.proofs.lemmas.Bool.{cases_eq}
 use Rattle.std.proofs.lemmas.List.FromFn.{get_or-map-range_with_len, length-map-range_with_len}
 use Rattle.dirac_common.specs.Table.{Table, clamped_to, row_of}
 use Rattle.dirac_common.proofs.Rows.{row_at, RowsFilled, rows_all}
-use Rattle.dirac_pyramid.specs.Pyramid.{mean_at, half_row, shrunk_at, shrunk, level_of}
+use Rattle.dirac_pyramid.specs.Pyramid.{mean_at, half_row, shrunk_at, shrunk, pyramid_level}
 
 -- one more place of a row is written
 pub written_more : (f : ℕ → ℤ) (out : List ℤ) (n m : ℕ) (v : ℤ) → ((k : ℕ) → k < n → get_or out k (pos 0) ≡ f k) → n < length out → m ≡ n + 1 → v ≡ f n
@@ -57,14 +57,14 @@ unfolding shrunk
 shrunk_is t u n ew eh some all r = rows_all (shrunk_at t) u ((t.width + 1) / 2) ((t.height + 1) / 2) n ew eh (omega arith) (omega arith) r
 
 -- the last of so many levels, and one more
-pub level_size : (t : Table) (l : ℕ) → t.width ≤ 8192 → t.height ≤ 8192 → ((level_of t l).width ≤ 8192) × ((level_of t l).height ≤ 8192)
+pub level_size : (t : Table) (l : ℕ) → t.width ≤ 8192 → t.height ≤ 8192 → ((pyramid_level t l).width ≤ 8192) × ((pyramid_level t l).height ≤ 8192)
 unfolding shrunk
 level_size t zero wide high = (wide, high)
 level_size t (suc l) wide high = let below = level_size t l wide high in (omega (arith, below.0), omega (arith, below.1))
 
 -- a level of those so far
-pub level_is : (t p : Table) (items : List Table) (l n : ℕ) → items ≡ map (level_of t) (range_with_len 0 n) → l < n → p ≡ get_or items l p → p ≡ level_of t l
-level_is t p items l n all inside e = e ∙ ap (λ xs. get_or xs l p) all ∙ get_or-map-range_with_len (level_of t) 0 n l l p inside (omega arith)
+pub level_is : (t p : Table) (items : List Table) (l n : ℕ) → items ≡ map (pyramid_level t) (range_with_len 0 n) → l < n → p ≡ get_or items l p → p ≡ pyramid_level t l
+level_is t p items l n all inside e = e ∙ ap (λ xs. get_or xs l p) all ∙ get_or-map-range_with_len (pyramid_level t) 0 n l l p inside (omega arith)
 
-pub levels_len : (t : Table) (items : List Table) (n : ℕ) → items ≡ map (level_of t) (range_with_len 0 n) → length items ≡ n
-levels_len t items n all = ap length all ∙ length-map-range_with_len (level_of t) 0 n
+pub levels_len : (t : Table) (items : List Table) (n : ℕ) → items ≡ map (pyramid_level t) (range_with_len 0 n) → length items ≡ n
+levels_len t items n all = ap length all ∙ length-map-range_with_len (pyramid_level t) 0 n

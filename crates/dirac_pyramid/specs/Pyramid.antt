@@ -23,13 +23,13 @@ unfoldable pub shrunk : Table → Table
 shrunk t = table_of ((t.width + 1) / 2) ((t.height + 1) / 2) (shrunk_at t)
 
 -- level l of a plane's pyramid; level 0 is the plane
-abbrev pub level_of : Table → ℕ → Table
-level_of t zero = t
-level_of t (suc l) = shrunk (level_of t l)
+abbrev pub pyramid_level : Table → ℕ → Table
+pyramid_level t zero = t
+pyramid_level t (suc l) = shrunk (pyramid_level t l)
 
 -- the levels 0 to `levels`
 abbrev pub pyramid_of : Table → ℕ → List Table
-pyramid_of t levels = map (level_of t) (range_with_len 0 (levels + 1))
+pyramid_of t levels = map (pyramid_level t) (range_with_len 0 (levels + 1))
 
 -- what stands for a level that a pyramid doesn't have: one sample of value 0
 abbrev pub no_plane : Table

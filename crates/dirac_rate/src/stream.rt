@@ -5,7 +5,8 @@ ghost use Rattle.std.specs.Io.KnownBytes.{IsAtEnd};
 ghost use Rattle.dirac_io.specs.Faults.{Rose};
 ghost use Rattle.dirac_types.specs.Settings.{IsAccepted};
 ghost use Rattle.dirac_encode_laws.specs.Alike.{AreShownAlike};
-ghost use Rattle.dirac_encode_laws.specs.Encoding.{AnswersEncode, EndsStream, IsRecoveredUnder, encoding_under};
+ghost use Rattle.dirac_encode_laws.specs.Encoding.{AnswersEncodedStream, EncodesToTheEnd, IsRecoveredUnder};
+ghost use Rattle.dirac_encode_laws.specs.Encoding.{encoding_under};
 ghost use Rattle.dirac_encode_laws.specs.Fit.{AllFitOrNone, fit};
 ghost use Rattle.dirac_encode_laws.specs.Standing.{jobs_in};
 ghost use Rattle.dirac_encode.specs.Alone.{WritesDue, WritesFrontOfRead};
@@ -33,12 +34,12 @@ pub fn rate_stream<R: Threads + Sync, S: Source, K: Sink, N: Sink, G: RowGate>(
     requires { IsAccepted settings.now }
     // The answer, and what both sinks took, are those of the encoding with these indices; a fault or want of memory
     // leaves a front of each.
-    ensures encoded { IfSome (S.held source.old) (λ bytes. AnswersEncode result
+    ensures encoded { IfSome (S.held source.old) (λ bytes. AnswersEncodedStream result
         (encoding_under (fit budget) settings.now bytes)
         (K.taken out.old) (K.taken out.new) (N.taken side.old) (N.taken side.new)) }
     // A whole stream is decoded to what the side got.
     ensures recovered { IfSome (S.held source.old) (λ bytes.
-        EndsStream result → IsRecoveredUnder (fit budget) settings.now bytes) }
+        EncodesToTheEnd result → IsRecoveredUnder (fit budget) settings.now bytes) }
     // Each unit fits the budget, or at no index from the settings' on it does.
     ensures fits { (bytes : List ℕ) → AllFitOrNone budget settings.now [] (jobs_in settings.now bytes) }
     // Where the settings ask for it, other decoders find in each picture what they need to show it alike.

@@ -4,13 +4,13 @@ use Rattle.dirac_common.specs.declared.faults.Cause.{Cause}
 use Rattle.dirac_common.specs.declared.faults.Refusal.{Refusal}
 use Rattle.dirac_common.specs.Chain.{◌>>=◌}
 use Rattle.dirac_bits.specs.Cursor.{Cursor, place, skip, aligned, bit_next, Passes}
-use Rattle.dirac_bits.specs.Fields.{block_at, bytes_on, flag_at, from, literal_at, literal_on, number_on, signed_on, sint_at, uint_at}
+use Rattle.dirac_bits.specs.Fields.{block_read_at, bytes_on, flag_at, from, literal_at, literal_on, number_on, signed_on, sint_at, uint_at}
 use Rattle.dirac_bits.specs.Syntax.{Syntax, done, flag_then, uint_then, sint_then, literal_then, block_then, align_then, here_then, refuse, read}
 use Rattle.dirac_bits.proofs.Passing.{none_passed, passes_bit}
 use Rattle.dirac_bits.proofs.Spelled.{flag_spelled, flag_read, uint_spelled, uint_read, sint_spelled, sint_read}
 use Rattle.dirac_bits.proofs.Literals.{literal_spelled, literal_read}
 use Rattle.dirac_bits.proofs.Blocks.{block_spelled, block_read}
-use Rattle.dirac_reading_laws.specs.Broken.{AreFewer, Breaks, BreaksAt, BreaksNumber, LacksSign}
+use Rattle.dirac_reading_laws.specs.Broken.{AreFewer, HeaderBreaks, BreaksAt, BreaksNumber, LacksSign}
 use Rattle.dirac_reading_laws.proofs.Numbers.{bytes_refused, bytes_stop, flag_refused, flag_stops, literal_refused, literal_stops, number_refused, number_stops, signed_refused, signed_stops}
 
 -- a field is refused at the byte of its first bit
@@ -65,8 +65,8 @@ literal_breaks c r e =
     let x = refused_at c (literal_on c) r e in
     (x.0, literal_refused c r.cause x.1)
 
-block_breaks : (len : ℕ) (c : Cursor) (r : Refusal) → block_at len c ≡ Err r → BreaksAt c r (AreFewer (8 * len) c)
-unfolding block_at
+block_breaks : (len : ℕ) (c : Cursor) (r : Refusal) → block_read_at len c ≡ Err r → BreaksAt c r (AreFewer (8 * len) c)
+unfolding block_read_at
 block_breaks len c r e =
     let x = refused_at c (bytes_on len c) r e in
     (x.0, bytes_refused len c r.cause x.1)
@@ -87,13 +87,13 @@ literal_ends : (c : Cursor) (r : Refusal) → BreaksAt c r (AreFewer 32 c) → l
 unfolding literal_at
 literal_ends c r b = refusal_is c (literal_on c) r b.0 (literal_stops c r.cause b.1)
 
-block_ends : (len : ℕ) (c : Cursor) (r : Refusal) → BreaksAt c r (AreFewer (8 * len) c) → block_at len c ≡ Err r
-unfolding block_at
+block_ends : (len : ℕ) (c : Cursor) (r : Refusal) → BreaksAt c r (AreFewer (8 * len) c) → block_read_at len c ≡ Err r
+unfolding block_read_at
 block_ends len c r b = refusal_is c (bytes_on len c) r b.0 (bytes_stop len c r.cause b.1)
 
 -- ---- headers
 
-pub refused_broken : {A : Type 0} (s : Syntax A) (c : Cursor) (r : Refusal) → read s c ≡ Err r → Breaks s c r
+pub refused_broken : {A : Type 0} (s : Syntax A) (c : Cursor) (r : Refusal) → read s c ≡ Err r → HeaderBreaks s c r
 refused_broken (done x) c r e = absurd cc
 refused_broken (flag_then f) c r e =
     field_cases (flag_at c) (λ b. read (f b.0) b.1) r e (λ first. inl (flag_breaks c r first))
@@ -114,7 +114,7 @@ refused_broken (literal_then f) c r e =
     let number = literal_read v c d first in
     inr (v, d, number.below, number.passes, refused_broken (f v) d r second))
 refused_broken (block_then len f) c r e =
-    field_cases (block_at len c) (λ n. read (f n.0) n.1) r e (λ first. inl (block_breaks len c r first))
+    field_cases (block_read_at len c) (λ n. read (f n.0) n.1) r e (λ first. inl (block_breaks len c r first))
     (λ v d first second.
     let bytes = block_read v len c d first in
     inr (v, d, (bytes.count, bytes.below), bytes.passes, refused_broken (f v) d r second))
@@ -129,7 +129,7 @@ refused_broken (refuse at cause) c r e =
 flag_passed : (b : Bool) (c d : Cursor) → Passes c (b ∷ []) d → flag_at c ≡ Ok (b, d)
 flag_passed b c d p = rw (none_passed (skip 1 c) d (passes_bit b [] c d p).1) (flag_spelled b [] c d p)
 
-pub broken_refused : {A : Type 0} (s : Syntax A) (c : Cursor) (r : Refusal) → Breaks s c r → read s c ≡ Err r
+pub broken_refused : {A : Type 0} (s : Syntax A) (c : Cursor) (r : Refusal) → HeaderBreaks s c r → read s c ≡ Err r
 broken_refused (done x) c r e = absurd e
 broken_refused (flag_then f) c r (inl b) = field_stops (flag_at c) (λ b. read (f b.0) b.1) r (flag_ends c r b)
 broken_refused (flag_then f) c r (inr e) =
@@ -143,9 +143,9 @@ broken_refused (sint_then f) c r (inr e) =
 broken_refused (literal_then f) c r (inl b) = field_stops (literal_at c) (λ n. read (f n.0) n.1) r (literal_ends c r b)
 broken_refused (literal_then f) c r (inr e) =
     later_stops (literal_at c) (λ n. read (f n.0) n.1) r e.0 e.1 (literal_spelled e.0 c e.1 e.2 e.3) (broken_refused (f e.0) e.1 r e.4)
-broken_refused (block_then len f) c r (inl b) = field_stops (block_at len c) (λ n. read (f n.0) n.1) r (block_ends len c r b)
+broken_refused (block_then len f) c r (inl b) = field_stops (block_read_at len c) (λ n. read (f n.0) n.1) r (block_ends len c r b)
 broken_refused (block_then len f) c r (inr e) =
-    later_stops (block_at len c) (λ n. read (f n.0) n.1) r e.0 e.1 (block_spelled e.0 len c e.1 e.2.0 e.2.1 e.3) (broken_refused (f e.0) e.1 r e.4)
+    later_stops (block_read_at len c) (λ n. read (f n.0) n.1) r e.0 e.1 (block_spelled e.0 len c e.1 e.2.0 e.2.1 e.3) (broken_refused (f e.0) e.1 r e.4)
 broken_refused (align_then s) c r e = broken_refused s (aligned c) r e
 broken_refused (here_then f) c r e = broken_refused (f (place c)) c r e
 broken_refused (refuse at cause) c r e = rw (← e.0, ← e.1) refl

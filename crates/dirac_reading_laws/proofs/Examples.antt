@@ -8,8 +8,8 @@ use Rattle.dirac_common.specs.Numbers.{digits_of, digits_within}
 use Rattle.dirac_bits.specs.Cursor.{Cursor, bits_left, start}
 use Rattle.dirac_bits.specs.Syntax.{Syntax, done, flag_then, uint_then, sint_then, align_then, here_then, refuse, uint}
 use Rattle.dirac_units.specs.declared.info.ParseInfo.{ParseInfo}
-use Rattle.dirac_units.specs.Cut.{IsCut, UnitText, start as first_place}
-use Rattle.dirac_reading_laws.specs.Broken.{Breaks, EndsBadly}
+use Rattle.dirac_units.specs.Cut.{IsCut, UnitText, first_unit_place}
+use Rattle.dirac_reading_laws.specs.Broken.{HeaderBreaks, EndsBadly}
 use Rattle.dirac_reading_laws.specs.Places.{LiesIn}
 
 -- refused at this byte, for this cause
@@ -29,7 +29,7 @@ short : EndsBadly (false ∷ []) 1 UnitShort
 short = refl
 
 -- ten bytes 00 hold 38 digits and a follow bit 0 behind them
-ten_zeros : Breaks uint (start (replicate 10 0)) (refusal 0 NumberTooLong)
+ten_zeros : HeaderBreaks uint (start (replicate 10 0)) (refusal 0 NumberTooLong)
 unfolding bits_left
 ten_zeros = inl (
   refl,
@@ -43,7 +43,7 @@ ten_zeros = inl (
 )
 
 -- nine hold 36 digits, and no bit more
-nine_zeros : Breaks uint (start (replicate 9 0)) (refusal 0 UnitShort)
+nine_zeros : HeaderBreaks uint (start (replicate 9 0)) (refusal 0 UnitShort)
 unfolding bits_left
 nine_zeros = inl (
   refl,
@@ -62,7 +62,7 @@ signed_behind_flags =
     flag_then (λ a. flag_then (λ b. flag_then (λ c. flag_then (λ d. flag_then (λ e. sint_then (λ z. done z))))))
 
 -- the byte 01 holds five flags and the number 1, whose sign isn't there
-no_sign : Breaks signed_behind_flags (start (0x01 ∷ [])) (refusal 0 UnitShort)
+no_sign : HeaderBreaks signed_behind_flags (start (0x01 ∷ [])) (refusal 0 UnitShort)
 unfolding bits_left digits_of digits_within
 no_sign =
     let behind : ℕ → Cursor = bit (0x01 ∷ []) in
@@ -108,7 +108,7 @@ abbrev number_behind_gap : Syntax ℕ
 number_behind_gap = flag_then (λ a. align_then uint)
 
 -- of 80 00 the number is four digits, and no bit more: it is refused at byte 1, where it begins
-behind_gap : Breaks number_behind_gap (start (0x80 ∷ 0x00 ∷ [])) (refusal 1 UnitShort)
+behind_gap : HeaderBreaks number_behind_gap (start (0x80 ∷ 0x00 ∷ [])) (refusal 1 UnitShort)
 unfolding bits_left
 behind_gap =
     let behind : ℕ → Cursor = bit (0x80 ∷ 0x00 ∷ []) in
@@ -134,7 +134,7 @@ two_refused =
     flag_then (λ a. align_then (here_then (λ at. uint_then (λ n. uint_then (λ m. refuse at BlockSize)))))
 
 -- 80 00 C0 holds the flag, the gap, 15 in byte 1 and further, and 0 in byte 2: the rule names byte 1
-later_rule : Breaks two_refused (start (0x80 ∷ 0x00 ∷ 0xC0 ∷ [])) (refusal 1 BlockSize)
+later_rule : HeaderBreaks two_refused (start (0x80 ∷ 0x00 ∷ 0xC0 ∷ [])) (refusal 1 BlockSize)
 unfolding bits_left digits_of digits_within
 later_rule =
     let behind : ℕ → Cursor = bit (0x80 ∷ 0x00 ∷ 0xC0 ∷ []) in
@@ -161,7 +161,7 @@ later_rule =
 no_place_behind : LiesIn [] (record { unit = 0; at = 1; cause = UnitShort }) → ⊥
 no_place_behind lies = omega (arith, lies.at)
 
-none_there : (units : List UnitText) (end : Option Fault) → IsCut first_place [] units end → length units ≡ 0
+none_there : (units : List UnitText) (end : Option Fault) → IsCut first_unit_place [] units end → length units ≡ 0
 none_there [] end cut = refl
 none_there (unit ∷ units) end cut =
     let front : Result ParseInfo (Option Fault) = Err (Some (record { unit = 0; at = 0; cause = MissingEnd })) in

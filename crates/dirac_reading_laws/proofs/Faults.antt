@@ -12,7 +12,7 @@ use Rattle.dirac_common.specs.declared.faults.Refusal.{Refusal}
 use Rattle.dirac_units.specs.declared.info.ParseInfo.{ParseInfo}
 use Rattle.dirac_units.specs.declared.info.UnitKind.{UnitKind}
 use Rattle.dirac_units.specs.declared.unit_place.UnitPlace.{UnitPlace}
-use Rattle.dirac_units.specs.Cut.{IsCut, UnitText, after, fault_at, front_of, start, unit_front}
+use Rattle.dirac_units.specs.Cut.{IsCut, UnitText, after, fault_at, front_of, first_unit_place, unit_front}
 use Rattle.dirac_units.specs.Info.{fields_are_read, info_of, info_read, offset_is_lawful, prefix, refusal_of, refused_by, span_of, unit_kind, unless_refused}
 use Rattle.dirac_units.proofs.Fronts.{chosen, front_whole}
 use Rattle.dirac_sequence_header.specs.declared.sequence.Sequence.{Sequence}
@@ -21,7 +21,7 @@ use Rattle.dirac_picture.specs.declared.coded.CodedPicture.{CodedPicture}
 use Rattle.dirac_picture.specs.Grammar.{picture_read}
 use Rattle.dirac_content.specs.declared.opened.Opened.{Opened}
 use Rattle.dirac_content.specs.Shown.{IsShown, Outcome, follows, outcome}
-use Rattle.dirac_content.specs.StreamState.{StreamState, StreamStep, begun, content, header_step, in_unit, is_same, made, opening, passed, picture_step, staying, unit_step}
+use Rattle.dirac_content.specs.StreamState.{StreamState, StreamStep, stream_begun, content, header_step, in_unit, is_same, shown_or_refused, opening, passed, picture_step, staying, unit_step}
 use Rattle.dirac_reading_laws.specs.Places.{LiesIn, place_behind}
 use Rattle.dirac_reading_laws.proofs.InPictures.{in_picture}
 use Rattle.dirac_reading_laws.proofs.InSequences.{in_sequence_header}
@@ -149,10 +149,10 @@ header_inside state (Some o) payload r e =
       | inr p ↦ at_first r SequenceChanged (length payload) (Err own) refl p.1
     ]
 
-made_inside : (state : StreamState) (o : Opened) (code : ℕ) (payload : List ℕ) (r : Refusal) (read : Result CodedPicture Refusal) → picture_read code o.sequence state.list payload ≡ read → made state o read ≡ Err r → r.at ≤ 13 + length payload
+made_inside : (state : StreamState) (o : Opened) (code : ℕ) (payload : List ℕ) (r : Refusal) (read : Result CodedPicture Refusal) → picture_read code o.sequence state.list payload ≡ read → shown_or_refused state o read ≡ Err r → r.at ≤ 13 + length payload
 made_inside state o code payload r (Ok coded) is e = absurd cc
 made_inside state o code payload r (Err q) is e =
-    in_payload r q (length payload) (made state o (Err q)) (in_picture code o.sequence state.list payload q is) refl e
+    in_payload r q (length payload) (shown_or_refused state o (Err q)) (in_picture code o.sequence state.list payload q is) refl e
 
 picture_inside : (state : StreamState) (o : Option Opened) (code : ℕ) (payload : List ℕ) (r : Refusal) → picture_step state o code payload ≡ Err r → r.at ≤ 13 + length payload
 picture_inside state None code payload r e = at_first r _ (length payload) (picture_step state None code payload) refl e
@@ -255,7 +255,7 @@ lies_shown state unit_place bytes (unit ∷ units) end fault cut ends =
     (λ next more. lies_shown next (after unit_place unit.info) (drop (span_of unit.info) bytes) units end fault cut.2 more)
 
 -- from the start on
-lies_in : (bytes : List ℕ) (units : List UnitText) (end : Option Fault) (fault : Fault) → IsCut start bytes units end → LiesFrom start bytes units fault → LiesIn bytes fault
+lies_in : (bytes : List ℕ) (units : List UnitText) (end : Option Fault) (fault : Fault) → IsCut first_unit_place bytes units end → LiesFrom first_unit_place bytes units fault → LiesIn bytes fault
 lies_in bytes units end fault cut lies =
     let same : lies.count ≡ fault.unit = omega (arith, lies.unit) in
     record {
@@ -264,14 +264,14 @@ lies_in bytes units end fault cut lies =
       end = end;
       cut = cut;
       unit = omega (arith, lies.at_most, same);
-      begins = subst (λ (n : ℕ). (place_behind start (take n units)).at ≤ fault.at) same lies.begins;
-      inside = subst (λ (n : ℕ). n < length units → fault.at ≤ (place_behind start (take (suc n) units)).at) same lies.inside;
+      begins = subst (λ (n : ℕ). (place_behind first_unit_place (take n units)).at ≤ fault.at) same lies.begins;
+      inside = subst (λ (n : ℕ). n < length units → fault.at ≤ (place_behind first_unit_place (take (suc n) units)).at) same lies.inside;
     }
 
 pub faults_lie : (bytes : List ℕ) (o : Outcome) (fault : Fault) → IsShown bytes o → o.end ≡ Some fault → LiesIn bytes fault
 faults_lie bytes o fault shown ends =
     lies_in bytes shown.units shown.end fault shown.cut
-    (lies_shown begun start bytes shown.units shown.end fault shown.cut (ap (λ (x : Outcome). x.end) shown.same ∙ ends))
+    (lies_shown stream_begun first_unit_place bytes shown.units shown.end fault shown.cut (ap (λ (x : Outcome). x.end) shown.same ∙ ends))
 
-pub cut_faults_lie : (bytes : List ℕ) (units : List UnitText) (fault : Fault) → IsCut start bytes units (Some fault) → LiesIn bytes fault
-cut_faults_lie bytes units fault cut = lies_in bytes units (Some fault) fault cut (lies_cut start bytes units fault cut)
+pub cut_faults_lie : (bytes : List ℕ) (units : List UnitText) (fault : Fault) → IsCut first_unit_place bytes units (Some fault) → LiesIn bytes fault
+cut_faults_lie bytes units fault cut = lies_in bytes units (Some fault) fault cut (lies_cut first_unit_place bytes units fault cut)

@@ -17,7 +17,7 @@ use Rattle.dirac_header.specs.declared.header.PictureHeader.{PictureHeader}
 use Rattle.dirac_header.specs.declared.transform.Transform.{Transform}
 use Rattle.dirac_header.specs.Codes.{is_reference, references_of}
 use Rattle.dirac_header.specs.Header.{header, reference, retirement}
-use Rattle.dirac_header.specs.Prediction.{block_grid, modes, own_grid, own_weights, prediction, second_weight, vector_precision, weight, weighted, weights}
+use Rattle.dirac_header.specs.Prediction.{block_grid, modes, own_grid, own_weights, prediction, second_weight, vector_precision, weight, prediction_with, weights}
 use Rattle.dirac_header.specs.Transform.{codeblocks, counts_behind, level_counts, partition, transform}
 use Rattle.dirac_coeffs.specs.declared.layout.BandLayout.{BandLayout}
 use Rattle.dirac_coeffs.specs.declared.layout.CodedBand.{CodedBand}
@@ -26,10 +26,10 @@ use Rattle.dirac_coeffs.specs.Grammar.{band, band_from, coded_band, zero_band}
 use Rattle.dirac_block_table.specs.declared.reference.Reference.{Reference}
 use Rattle.dirac_blocks.specs.declared.parts.ListKind.TheVariants as parts
 use Rattle.dirac_block_table.specs.declared.reference.Reference.TheVariants as references
-use Rattle.dirac_blocks.specs.Grammar.{Step, blocks, dcs_listed, empty_table, listed, lists_of, second_listed, splits_step, table_from, units_step, values_listed, vectors_listed}
+use Rattle.dirac_blocks.specs.Grammar.{TableStep, blocks, dcs_listed, empty_table, list_over, lists_of, second_listed, splits_step, table_from, units_step, values_listed, vectors_listed}
 use Rattle.dirac_block_table.specs.Tables.{BlockTable}
 use Rattle.dirac_picture.specs.Bands.{band_count, layout_of, parent_values}
-use Rattle.dirac_picture.specs.Grammar.{bands_behind, body, motion, picture, picture_read, planes, prediction_fields, residual, residual_unless, superblocks_over, zero_residual}
+use Rattle.dirac_picture.specs.Grammar.{bands_behind, body, motion, picture, picture_read, planes, prediction_fields, residual_fields, residual_unless, superblocks_over, zero_residual}
 use Rattle.dirac_reading_laws.proofs.Within.{RefusesWithin, a_block, a_field, a_flag, a_gap, a_literal, a_number, a_signed, behind, either, from_here, if_custom, no_more, refused_within, refuses}
 
 -- ---- the header
@@ -114,7 +114,7 @@ in_prediction : (n code : ℕ) (chroma : Chroma) → RefusesWithin n (prediction
 unfolding prediction
 in_prediction n code chroma =
     behind n _ _ (a_gap n) (λ gap. behind n _ _ (in_block_grid n chroma) (λ grid. behind n _ _ (in_precision n) (λ precision. behind n _ _ (in_modes n) (λ none.
-    behind n _ _ (in_weights n (references_of code == 2)) (λ weights. no_more n (weighted grid precision weights))))))
+    behind n _ _ (in_weights n (references_of code == 2)) (λ weights. no_more n (prediction_with grid precision weights))))))
 
 -- ---- the block table
 
@@ -122,12 +122,12 @@ in_table : (n at : ℕ) → at ≤ n → (r : Result (BlockTable × Reading) Cau
 in_table n at inside (Ok x) = no_more n _
 in_table n at inside (Err cause) = refuses _ n _ _ inside
 
-in_list : (n : ℕ) (step : Step) (t : BlockTable) → RefusesWithin n (listed step t)
-unfolding listed
+in_list : (n : ℕ) (step : TableStep) (t : BlockTable) → RefusesWithin n (list_over step t)
+unfolding list_over
 in_list n step t =
     behind n _ _ (a_number n) (λ len. behind n _ _ (a_gap n) (λ gap.
-    from_here n (λ at. block_then len (λ block. table_from at (coded.read (step t) (begin block)))) (λ at inside.
-    a_block n len (λ block. table_from at (coded.read (step t) (begin block))) (λ block. in_table n at inside (coded.read (step t) (begin block))))))
+    from_here n (λ at. block_then len (λ block. table_from at (coded.read_coded (step t) (begin block)))) (λ at inside.
+    a_block n len (λ block. table_from at (coded.read_coded (step t) (begin block))) (λ block. in_table n at inside (coded.read_coded (step t) (begin block))))))
 
 in_vectors : (n : ℕ) (k : Reference) (t : BlockTable) → RefusesWithin n (vectors_listed k t)
 unfolding vectors_listed
@@ -186,8 +186,8 @@ in_planes n s t =
     behind n _ _ (in_bands n t (chroma_width s) (chroma_height s) [] (band_count t.depth)) (λ u.
     behind n _ _ (in_bands n t (chroma_width s) (chroma_height s) [] (band_count t.depth)) (λ v. no_more n _)))
 
-in_residual : (n : ℕ) (s : Sequence) → RefusesWithin n (residual s)
-unfolding residual
+in_residual : (n : ℕ) (s : Sequence) → RefusesWithin n (residual_fields s)
+unfolding residual_fields
 in_residual n s = behind n _ _ (in_transform n s.width (picture_height s)) (λ t. in_planes n s t)
 
 -- ---- the picture

@@ -6,11 +6,11 @@ use Rattle.dirac_common.specs.declared.formats.Chroma.{Chroma}
 use Rattle.dirac_bits.specs.Syntax.{done, refuse}
 use Rattle.dirac_sequence_header.specs.declared.sequence.Sequence.{Sequence}
 use Rattle.dirac_sequence_header.specs.declared.sequence.SignalRange.{SignalRange}
-use Rattle.dirac_sequence_header.specs.Grammar.{aspect, base_format, chroma, clean_area, coding_mode, colour_part, colour_parts, colours, fraction, frames, has_whole_fields, own_chroma, own_range, rate, samples, sampling, sequence, sequence_read, signal, signal_range, size, values}
+use Rattle.dirac_sequence_header.specs.Grammar.{aspect, base_format_fields, chroma, clean_area, coding_mode, colour_part, colour_parts, colours, fraction, frames, has_whole_fields, own_chroma, own_range, rate, samples, sampling, sequence, sequence_read, signal, signal_range, size, values}
 use Rattle.dirac_reading_laws.proofs.Within.{RefusesWithin, a_field, a_number, behind, either, from_here, if_custom, no_more, refused_within, refuses}
 
-in_base_format : (n : ℕ) → RefusesWithin n base_format
-unfolding base_format
+in_base_format : (n : ℕ) → RefusesWithin n base_format_fields
+unfolding base_format_fields
 in_base_format n =
     behind n _ _ (a_field n _ _) (λ major. behind n _ _ (a_number n) (λ minor. behind n _ _ (a_number n) (λ profile. behind n _ _ (a_number n) (λ level.
     behind n _ _ (a_field n _ _) (λ base. no_more n _)))))

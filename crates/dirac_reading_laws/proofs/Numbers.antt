@@ -7,8 +7,8 @@ use Rattle.dirac_common.specs.declared.faults.Cause.TheVariants.{NumberTooLong, 
 use Rattle.dirac_common.specs.Bits.{bit_value, number_from}
 use Rattle.dirac_common.specs.Numbers.{followed, uint}
 use Rattle.dirac_common.specs.Chain.{◌>>=◌}
-use Rattle.dirac_bits.specs.Cursor.{Cursor, skip, bits_left, first_of, bit_next, Passes}
-use Rattle.dirac_bits.specs.Fields.{bits_on, bytes_on, literal_on, number_of, number_on, sign_on, signed_on}
+use Rattle.dirac_bits.specs.Cursor.{Cursor, skip, bits_left, first_bit_of, bit_next, Passes}
+use Rattle.dirac_bits.specs.Fields.{bits_on, bytes_on, literal_on, number_from_bits, number_on, sign_on, signed_on}
 use Rattle.dirac_bits.proofs.Doublings.{ends_number, goes_on, no_digit, no_follow, too_long}
 use Rattle.dirac_bits.proofs.Literals.{bits_on_short, bits_on_spelled}
 use Rattle.dirac_bits.proofs.Passing.{bit_passed, left_behind, none_passed, passes_bit, passes_join, passes_none}
@@ -16,9 +16,9 @@ use Rattle.dirac_bits.proofs.Spelled.{uint_on_read, uint_on_spelled}
 use Rattle.dirac_reading_laws.specs.Broken.{AreFewer, BreaksNumber, EndsBadly, LacksSign}
 
 -- the next bit, by the bits that are left
-next_is : (c : Cursor) (left : List Bool) → bits_left c ≡ left → bit_next c ≡ first_of left c
+next_is : (c : Cursor) (left : List Bool) → bits_left c ≡ left → bit_next c ≡ first_bit_of left c
 unfolding bit_next
-next_is c left is = ap (λ l. first_of l c) is
+next_is c left is = ap (λ l. first_bit_of l c) is
 
 -- an answer has one cause
 same_cause : {A : Type 0} (r : Result A Cause) (x y : Cause) → r ≡ Err x → r ≡ Err y → x ≡ y
@@ -188,7 +188,7 @@ bits_refused n c cause e =
 pub bits_stop : (n : ℕ) (c : Cursor) (cause : Cause) → AreFewer n c cause → bits_on n c ≡ Err cause
 bits_stop n c cause few = rw few.1 (bits_on_short n c few.0)
 
-literal_cases : (c : Cursor) (cause : Cause) (r : Result (List Bool × Cursor) Cause) → bits_on 32 c ≡ r → (r >>= number_of) ≡ Err cause → AreFewer 32 c cause
+literal_cases : (c : Cursor) (cause : Cause) (r : Result (List Bool × Cursor) Cause) → bits_on 32 c ≡ r → (r >>= number_from_bits) ≡ Err cause → AreFewer 32 c cause
 literal_cases c cause (Ok x) is e = absurd cc
 literal_cases c cause (Err other) is e =
     let same : other ≡ cause = cc in

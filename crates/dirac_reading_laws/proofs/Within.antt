@@ -7,9 +7,9 @@ use Rattle.dirac_common.specs.Bits.{bits_of}
 use Rattle.dirac_common.specs.Numbers as numbers
 use Rattle.dirac_bits.specs.Answers.{value_of}
 use Rattle.dirac_bits.specs.Cursor.{Cursor, aligned, place, start}
-use Rattle.dirac_bits.specs.Syntax.{Syntax, done, flag_then, uint_then, sint_then, literal_then, block_then, align_then, here_then, refuse, ◌>>=◌, align, custom, field, flag, here, literal, read, sint, uint}
+use Rattle.dirac_bits.specs.Syntax.{Syntax, done, flag_then, uint_then, sint_then, literal_then, block_then, align_then, here_then, refuse, ◌>>=◌, align, custom, number_field, flag, here, literal, read, sint, uint}
 use Rattle.dirac_bits.proofs.Passing.{passes_gap, passes_inside}
-use Rattle.dirac_reading_laws.specs.Broken.{Breaks}
+use Rattle.dirac_reading_laws.specs.Broken.{HeaderBreaks}
 use Rattle.dirac_reading_laws.proofs.Broken.{refused_broken}
 
 -- the places of a header's own refusals are at most this one, where the places that it looks at are
@@ -79,7 +79,7 @@ pub from_here : {A : Type 0} (n : ℕ) (f : ℕ → Syntax A) → ((at : ℕ) �
 unfolding RefusesWithin
 from_here n f k = k
 
-pub a_field : (n : ℕ) (cause : Cause) (allows : ℕ → Bool) → RefusesWithin n (field cause allows)
+pub a_field : (n : ℕ) (cause : Cause) (allows : ℕ → Bool) → RefusesWithin n (number_field cause allows)
 unfolding RefusesWithin
 a_field n cause allows = λ at inside v. either n (allows v) (done v) (refuse at cause) tt inside
 
@@ -90,7 +90,7 @@ if_custom n default s p = λ own. either n own s (done default) p tt
 -- ---- reading
 
 -- a header that breaks is refused within its bytes
-broken_within : {A : Type 0} (n : ℕ) (s : Syntax A) (c : Cursor) (r : Refusal) → length c.bytes ≡ n → c.at ≤ 8 * length c.bytes → RefusesWithin n s → Breaks s c r → r.at ≤ n
+broken_within : {A : Type 0} (n : ℕ) (s : Syntax A) (c : Cursor) (r : Refusal) → length c.bytes ≡ n → c.at ≤ 8 * length c.bytes → RefusesWithin n s → HeaderBreaks s c r → r.at ≤ n
 unfolding RefusesWithin
 broken_within n (done x) c r size inside p e = absurd e
 broken_within n (flag_then f) c r size inside p (inl b) = omega (arith, b.0, inside, size)

@@ -48,24 +48,24 @@ abbrev pub BreaksAt : Cursor → Refusal → (Cause → Type 0) → Type 0
 BreaksAt c r P = (r.at ≡ place c) × P r.cause
 
 -- the header breaks there with this refusal: its next field isn't spelled, or it is, and the rest breaks behind it
-abbrev pub Breaks : {A : Type 0} → Syntax A → Cursor → Refusal → Type 0
-Breaks (done x) c r = ⊥
-Breaks (flag_then f) c r =
+abbrev pub HeaderBreaks : {A : Type 0} → Syntax A → Cursor → Refusal → Type 0
+HeaderBreaks (done x) c r = ⊥
+HeaderBreaks (flag_then f) c r =
     BreaksAt c r (AreFewer 1 c)
-    ⊎ ((b : Bool) × (d : Cursor) × Passes c (b ∷ []) d × Breaks (f b) d r)
-Breaks (uint_then f) c r =
+    ⊎ ((b : Bool) × (d : Cursor) × Passes c (b ∷ []) d × HeaderBreaks (f b) d r)
+HeaderBreaks (uint_then f) c r =
     BreaksAt c r (BreaksNumber MOST_DIGITS c)
-    ⊎ ((v : ℕ) × (d : Cursor) × (v + 1 < 2 ^ 39) × Passes c (uint v) d × Breaks (f v) d r)
-Breaks (sint_then f) c r =
+    ⊎ ((v : ℕ) × (d : Cursor) × (v + 1 < 2 ^ 39) × Passes c (uint v) d × HeaderBreaks (f v) d r)
+HeaderBreaks (sint_then f) c r =
     BreaksAt c r (λ cause. BreaksNumber MOST_DIGITS c cause ⊎ LacksSign c cause)
-    ⊎ ((v : ℤ) × (d : Cursor) × (unsigned_abs v + 1 < 2 ^ 39) × Passes c (sint v) d × Breaks (f v) d r)
-Breaks (literal_then f) c r =
+    ⊎ ((v : ℤ) × (d : Cursor) × (unsigned_abs v + 1 < 2 ^ 39) × Passes c (sint v) d × HeaderBreaks (f v) d r)
+HeaderBreaks (literal_then f) c r =
     BreaksAt c r (AreFewer 32 c)
-    ⊎ ((v : ℕ) × (d : Cursor) × (v < 2 ^ 32) × Passes c (literal v) d × Breaks (f v) d r)
-Breaks (block_then len f) c r =
+    ⊎ ((v : ℕ) × (d : Cursor) × (v < 2 ^ 32) × Passes c (literal v) d × HeaderBreaks (f v) d r)
+HeaderBreaks (block_then len f) c r =
     BreaksAt c r (AreFewer (8 * len) c)
     ⊎ ((bytes : List ℕ) × (d : Cursor) × ((length bytes ≡ len) × AllByRecursion (λ b. b < 2 ^ 8) bytes)
-    × Passes c (bits_of bytes) d × Breaks (f bytes) d r)
-Breaks (align_then s) c r = Breaks s (aligned c) r
-Breaks (here_then f) c r = Breaks (f (place c)) c r
-Breaks (refuse at cause) c r = (r.at ≡ at) × (r.cause ≡ cause)
+    × Passes c (bits_of bytes) d × HeaderBreaks (f bytes) d r)
+HeaderBreaks (align_then s) c r = HeaderBreaks s (aligned c) r
+HeaderBreaks (here_then f) c r = HeaderBreaks (f (place c)) c r
+HeaderBreaks (refuse at cause) c r = (r.at ≡ at) × (r.cause ≡ cause)

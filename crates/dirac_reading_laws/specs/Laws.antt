@@ -5,21 +5,21 @@ use Rattle.dirac_bits.specs.Cursor.{Cursor}
 use Rattle.dirac_bits.specs.Laws.{BeginsWith}
 use Rattle.dirac_bits.specs.Syntax.{Syntax, read}
 use Rattle.dirac_content.specs.Shown.{IsShown, Outcome}
-use Rattle.dirac_reading_laws.specs.Broken.{Breaks}
+use Rattle.dirac_reading_laws.specs.Broken.{HeaderBreaks}
 
 -- a header is refused exactly where it breaks
 abbrev pub IsRefusedWhereBroken : Type 0 → Type 0
-IsRefusedWhereBroken A = (s : Syntax A) (c : Cursor) (r : Refusal) → (read s c ≡ Err r) ↔ Breaks s c r
+IsRefusedWhereBroken A = (s : Syntax A) (c : Cursor) (r : Refusal) → (read s c ≡ Err r) ↔ HeaderBreaks s c r
 
 -- within the bytes, the bits left begin with a spelling of a value, or the header breaks
 abbrev pub IsSpelledOrBreaks : Type 0 → Type 0
 IsSpelledOrBreaks A =
     (s : Syntax A) (c : Cursor) → c.at ≤ 8 * length c.bytes → ((x : A) × (d : Cursor) × BeginsWith s x c d)
-    ⊎ ((r : Refusal) × Breaks s c r)
+    ⊎ ((r : Refusal) × HeaderBreaks s c r)
 
 -- a header that is spelled there doesn't break there
 abbrev pub NoneSpelledBreaks : Type 0 → Type 0
-NoneSpelledBreaks A = (s : Syntax A) (x : A) (c d : Cursor) (r : Refusal) → BeginsWith s x c d → Breaks s c r → ⊥
+NoneSpelledBreaks A = (s : Syntax A) (x : A) (c d : Cursor) (r : Refusal) → BeginsWith s x c d → HeaderBreaks s c r → ⊥
 
 -- the bits left begin with a spelling of one value, which ends at one place
 abbrev pub SpellsOneValue : Type 0 → Type 0
@@ -28,7 +28,7 @@ SpellsOneValue A =
 
 -- a header breaks with one refusal
 abbrev pub BreaksWithOneRefusal : Type 0 → Type 0
-BreaksWithOneRefusal A = (s : Syntax A) (c : Cursor) (r q : Refusal) → Breaks s c r → Breaks s c q → r ≡ q
+BreaksWithOneRefusal A = (s : Syntax A) (c : Cursor) (r q : Refusal) → HeaderBreaks s c r → HeaderBreaks s c q → r ≡ q
 
 -- a list of bytes shows one outcome
 abbrev pub StreamsShowOneOutcome : Type 0

@@ -4,7 +4,7 @@ use Rattle.dirac_common.specs.declared.faults.Fault.{Fault}
 use Rattle.dirac_common.specs.declared.faults.Refusal.{Refusal}
 use Rattle.dirac_common.specs.declared.picture.Picture.{Picture}
 use Rattle.dirac_units.specs.declared.unit_place.UnitPlace.{UnitPlace}
-use Rattle.dirac_units.specs.Cut.{UnitText, IsCut, after, start}
+use Rattle.dirac_units.specs.Cut.{UnitText, IsCut, after, first_unit_place}
 use Rattle.dirac_sequence_header.specs.declared.sequence.Sequence.{Sequence}
 use Rattle.dirac_sequence_header.specs.Grammar.{sequence_read}
 use Rattle.dirac_picture.specs.Grammar.{picture_read}
@@ -21,10 +21,10 @@ pub record LiesIn (bytes : List ℕ) (fault : Fault) : Type 0 where
   pub at : fault.at ≤ length bytes
   pub units : List UnitText
   pub end : Option Fault
-  pub cut : IsCut start bytes units end
+  pub cut : IsCut first_unit_place bytes units end
   pub unit : fault.unit ≤ length units
-  pub begins : (place_behind start (take fault.unit units)).at ≤ fault.at
-  pub inside : fault.unit < length units → fault.at ≤ (place_behind start (take (suc fault.unit) units)).at
+  pub begins : (place_behind first_unit_place (take fault.unit units)).at ≤ fault.at
+  pub inside : fault.unit < length units → fault.at ≤ (place_behind first_unit_place (take (suc fault.unit) units)).at
 
 -- the fault that ends what bytes show lies in them
 abbrev pub FaultsLieInTheirBytes : Type 0
@@ -34,7 +34,7 @@ FaultsLieInTheirBytes =
 -- so does the fault that ends their cut
 abbrev pub CutsFaultInTheirBytes : Type 0
 CutsFaultInTheirBytes =
-    (bytes : List ℕ) (units : List UnitText) (fault : Fault) → IsCut start bytes units (Some fault)
+    (bytes : List ℕ) (units : List UnitText) (fault : Fault) → IsCut first_unit_place bytes units (Some fault)
     → LiesIn bytes fault
 
 -- a sequence header is refused at a byte of its payload, or right behind the last

@@ -16,7 +16,7 @@ use Rattle.dirac_picture.specs.Fits as picture
 use Rattle.dirac_picture.proofs.Lawful.{layout_lawful}
 use Rattle.dirac_synthesis.specs.Fits as plane
 
-pub bands_of_plane : (t : Transform) (width height : ℕ) (bands : List CodedBand) → picture.IsLayout t → picture.AreBandsOf t width height bands → plane.AreBandsOf t width height bands
+pub bands_of_plane : (t : Transform) (width height : ℕ) (bands : List CodedBand) → picture.IsLayout t → picture.AreBandsOf t width height bands → plane.AreRestorableBands t width height bands
 unfolding layout_of
 bands_of_plane t width height bands layout fits = record {
   count = fits.count;
@@ -33,7 +33,7 @@ bands_of_plane t width height bands layout fits = record {
 }
 
 -- those of each plane of a picture's residual
-pub bands_of_part : (s : Sequence) (r : CodedResidual) (p : Component) → IsSequence s → picture.IsResidual s r → plane.AreBandsOf r.transform (width_of s p) (height_of s p) (bands_of r p)
+pub bands_of_part : (s : Sequence) (r : CodedResidual) (p : Component) → IsSequence s → picture.IsResidual s r → plane.AreRestorableBands r.transform (width_of s p) (height_of s p) (bands_of r p)
 bands_of_part s r p lawful fits = bands p
   where
     layout : picture.IsLayout r.transform
@@ -41,7 +41,7 @@ bands_of_part s r p lawful fits = bands p
         let size = picture_size s lawful in
         layout_lawful s.width (picture_height s) r.transform size.1 (omega (arith, size.3)) fits.transform
 
-    bands : (o : Component) → plane.AreBandsOf r.transform (width_of s o) (height_of s o) (bands_of r o)
+    bands : (o : Component) → plane.AreRestorableBands r.transform (width_of s o) (height_of s o) (bands_of r o)
     bands component.Y = bands_of_plane r.transform s.width (picture_height s) r.y layout fits.y
     bands component.U = bands_of_plane r.transform (width_of s component.U) (height_of s component.U) r.u layout fits.u
     bands component.V = bands_of_plane r.transform (width_of s component.V) (height_of s component.V) r.v layout fits.v

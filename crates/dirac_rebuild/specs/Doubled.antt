@@ -5,6 +5,6 @@ use Rattle.dirac_rebuild.specs.declared.compensate.Doubled.{Doubled}
 use Rattle.dirac_rebuild.specs.declared.compensate.Doubled.TheVariants.{Kept, Made}
 
 -- that plane
-abbrev pub plane_in : Doubled → Up
-plane_in (Kept up) = up.now
-plane_in (Made up) = up
+abbrev pub doubled_plane_in : Doubled → Up
+doubled_plane_in (Kept up) = up.now
+doubled_plane_in (Made up) = up

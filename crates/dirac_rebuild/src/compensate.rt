@@ -5,9 +5,9 @@ ghost use Rattle.dirac_sequence_header.specs.Lawful.{IsSequence};
 ghost use Rattle.dirac_refs.specs.Halves.{AreHalves};
 ghost use Rattle.dirac_picture.specs.Fits.{IsMotion, NamesReferences};
 ghost use Rattle.dirac_obmc.specs.Compensation.{IsPredictable, predicted_plane};
-ghost use Rattle.dirac_obmc.specs.Given.{given};
+ghost use Rattle.dirac_obmc.specs.Given.{compensation_of};
 ghost use Rattle.dirac_content.specs.Content as content;
-ghost use Rattle.dirac_rebuild.specs.Doubled.{plane_in};
+ghost use Rattle.dirac_rebuild.specs.Doubled.{doubled_plane_in};
 ghost use Rattle.dirac_rebuild.specs.Moved.{IsMoved};
 ghost use Rattle.dirac_content.specs.Predicting.{IsUpOfPart};
 
@@ -59,9 +59,10 @@ pub fn plane_motion<'a>(
     requires first { IsUpOfPart sequence.now component first.now }
     requires second { ForSome (option_copied second) (IsUpOfPart sequence.now component) }
     requires two { motion.now.blocks.refs ≡ 2 → IsSome second }
-    ensures value { given result ≡ content.compensated sequence.now motion.now first.now (option_copied second.entry)
+    ensures value { compensation_of result
+        ≡ content.compensated sequence.now motion.now first.now (option_copied second.entry)
         component }
-    ensures fits { IsPredictable (given result) }
+    ensures fits { IsPredictable (compensation_of result) }
 {
     Motion {
         blocks: &motion.blocks,
@@ -135,11 +136,11 @@ pub(crate) enum Doubled<'a> {
 }
 
 impl<'a> Doubled<'a> {
-    ghost use Rattle.dirac_rebuild.specs.Doubled.{plane_in};
+    ghost use Rattle.dirac_rebuild.specs.Doubled.{doubled_plane_in};
 
     /// Lends the plane.
     fn plane(&self) -> &UpPlane
-        ensures { result.now ≡ plane_in self.now }
+        ensures { result.now ≡ doubled_plane_in self.now }
     {
         match self {
             Doubled::Kept(up) => up,
@@ -157,7 +158,7 @@ fn up_of_reference<'a>(
 ) -> Result<Doubled<'a>, NoMemory>
     requires sequence { IsSequence sequence.now }
     requires reference { content.IsPicture sequence.now reference.now }
-    ensures { IfOk result (λ d. plane_in d ≡ content.up_of (content.plane_of reference.now component)) }
+    ensures { IfOk result (λ d. doubled_plane_in d ≡ content.up_of (content.plane_of reference.now component)) }
 {
     match kept_plane(reference, component) {
         None => {

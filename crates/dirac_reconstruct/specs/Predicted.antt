@@ -9,7 +9,7 @@ use Rattle.dirac_content.specs.Content.{height_of, predicted_among, width_of}
 use Rattle.dirac_encode_planes.specs.declared.predictions.Predictions.{Predictions}
 
 -- what is predicted for a plane of a picture from these references, by rows: a value for each sample
-pub record IsPrediction (s : Sequence) (first second : Option Picture) (m : CodedMotion) (component : Component)
+pub record IsPredictionOfPlane (s : Sequence) (first second : Option Picture) (m : CodedMotion) (component : Component)
     (values : List ℤ) : Type 0 where
   pub same : values ≡ predicted_among s m first second component
   pub len : length values ≡ width_of s component * height_of s component
@@ -17,6 +17,6 @@ pub record IsPrediction (s : Sequence) (first second : Option Picture) (m : Code
 -- what is predicted for its planes
 pub record ArePredictions (s : Sequence) (first second : Option Picture) (m : CodedMotion)
     (ps : Predictions) : Type 0 where
-  pub y : IsPrediction s first second m component.Y ps.y.values
-  pub u : IsPrediction s first second m component.U ps.u.values
-  pub v : IsPrediction s first second m component.V ps.v.values
+  pub y : IsPredictionOfPlane s first second m component.Y ps.y.values
+  pub u : IsPredictionOfPlane s first second m component.U ps.u.values
+  pub v : IsPredictionOfPlane s first second m component.V ps.v.values

@@ -7,7 +7,8 @@ ghost use Rattle.dirac_content.specs.Content.{rebuilt};
 ghost use Rattle.dirac_rows.specs.Answers.{AnswerRows};
 ghost use Rattle.dirac_reconstruct.specs.declared.parts.Part.{Part as ThePart};
 ghost use Rattle.dirac_reconstruct.specs.Finishing.{IsFinishable};
-ghost use Rattle.dirac_reconstruct.specs.Parts.{bands_in, ArePartsOf, EndsWithTexts, HasAllText, IsPartAt, IsPlaneOf};
+ghost use Rattle.dirac_reconstruct.specs.Parts.{bands_per_plane, ArePartsOf, EndsWithTexts, HasAllText, IsPartAt};
+ghost use Rattle.dirac_reconstruct.specs.Parts.{IsFinishedPlaneOf};
 
 use crate::parts::{Part, bands_each};
 use crate::showing::{Finished, Finishing};
@@ -41,8 +42,9 @@ fn take_text(
     parts: &mut Vec<Part>,
 ) -> Result<Vec<u8>, NoMemory>
     requires finishing { IsFinishable from.now }
-    requires count { bands_in from.now < length parts.old.items }
-    ensures rest { OnOk result (parts.new.items ≡ take (length parts.old.items - bands_in from.now) parts.old.items) }
+    requires count { bands_per_plane from.now < length parts.old.items }
+    ensures rest { OnOk result
+        (parts.new.items ≡ take (length parts.old.items - bands_per_plane from.now) parts.old.items) }
     ensures text { (o : TheComponent) → EndsWithTexts from.now o parts.old.items
         → IfOk result (λ v. HasAllText from.now o v.items) }
 {
@@ -61,14 +63,14 @@ fn take_plane(
     parts: &mut Vec<Part>,
 ) -> Result<FinishedPlane, NoMemory>
     requires finishing { IsFinishable from.now }
-    requires count { bands_in from.now < length parts.old.items }
+    requires count { bands_per_plane from.now < length parts.old.items }
     requires shown { (d : ThePart) → IsSome (slice_index_or parts.old.items
-        (length parts.old.items - bands_in from.now - 1) d).shown }
+        (length parts.old.items - bands_per_plane from.now - 1) d).shown }
     ensures rest { OnOk result (parts.new.items
-        ≡ take (length parts.old.items - bands_in from.now - 1) parts.old.items) }
+        ≡ take (length parts.old.items - bands_per_plane from.now - 1) parts.old.items) }
     ensures plane { (o : TheComponent)
-        → ArePartsOf from.now o (length parts.old.items - bands_in from.now - 1) parts.old.items
-        → IfOk result (IsPlaneOf from.now o) }
+        → ArePartsOf from.now o (length parts.old.items - bands_per_plane from.now - 1) parts.old.items
+        → IfOk result (IsFinishedPlaneOf from.now o) }
 {
     let text = take_text(alloc, from, parts)?;
     let part = take_last(parts);
@@ -86,7 +88,7 @@ pub(crate) fn gathered(
     mut parts: Vec<Part>,
 ) -> Result<Finished, NoMemory>
     requires finishing { IsFinishable from.now }
-    requires parts { AnswerRows (IsPartAt from.now) (3 * (bands_in from.now + 1)) parts.items }
+    requires parts { AnswerRows (IsPartAt from.now) (3 * (bands_per_plane from.now + 1)) parts.items }
     ensures texts { IfOk result (λ f. IfSome from.now.coded.now.residual
         (λ r. AreTexts from.now.sequence.now r f.texts)) }
     ensures shown { IfOk result (λ f. f.shown ≡ rebuilt from.now.sequence.now from.now.refs.now from.now.coded.now) }

@@ -7,7 +7,7 @@ ghost use Rattle.dirac_rows.specs.Answers.{AnswerRows};
 ghost use Rattle.dirac_content.specs.Content.{plane_samples};
 ghost use Rattle.dirac_reconstruct.specs.Finishing.{IsFinishable};
 ghost use Rattle.dirac_reconstruct.specs.Parts as parts;
-ghost use Rattle.dirac_reconstruct.specs.Parts.{IsPart, IsPartAt};
+ghost use Rattle.dirac_reconstruct.specs.Parts.{IsPartOfPlane, IsPartAt};
 
 use crate::planes::show_plane;
 use crate::showing::Finishing;
@@ -78,7 +78,7 @@ fn part_of(
 ) -> Result<Part, NoMemory>
     requires finishing { IsFinishable from.now }
     requires among { k ≤ parts.bands_each from.now.coded.now.residual }
-    ensures { IfOk result (IsPart from.now component k) }
+    ensures { IfOk result (IsPartOfPlane from.now component k) }
 {
     if k == 0 {
         return shown_part(alloc, from, component);

@@ -85,5 +85,5 @@ abbrev pub deliver : List Waiting → List Picture
 deliver ws = (pushed_all [] ws).gone
 
 -- the pictures of a sequence in the order of delivery, the rest at its end
-abbrev pub flush : List Waiting → List Picture
-flush ws = let all = pushed_all [] ws in all.gone ++ flushed all.waiting
+abbrev pub in_delivery_order : List Waiting → List Picture
+in_delivery_order ws = let all = pushed_all [] ws in all.gone ++ flushed all.waiting

@@ -6,7 +6,7 @@ use mathlib.Core.Option.{none, some}
 use lib.ListN.{get_elem?}
 use Rattle.atomic_table.specs.Table.{State, Me, step, keeps, Allows, Splits, Joins, Final, Seen}
 use Rattle.atomic_table.proofs.Lists.{at_set, at_snoc, set_else}
-use Rattle.dirac_rows.specs.Weights.{total, total_below, times, past_rows}
+use Rattle.dirac_rows.specs.Weights.{total, added_below, times, past_rows}
 use Rattle.dirac_rows.specs.Rule.{spent_view, left_by_split, made_by_split, made_by_join, made_by_claim, Draws, FitsTerms, KeepsRule, Looks}
 use Rattle.dirac_rows.specs.declared.view.View.{View}
 use Rattle.dirac_rows.specs.declared.view.Terms.{Terms}
@@ -46,7 +46,7 @@ draws t slots id m rows seats has_share going s k _ at _ =
       record {
         has_one_word = length-set s.words 0 ((n + 1) % 18446744073709551616) ∙ k.has_one_word;
         each_number_once = λ f. let a = k.each_number_once f in let b = total-set (λ (v : View). total f v.drawn) s.views id m.0 w at in let c = total-append f m.0.drawn (n ∷ []) in
-            let d : total (λ (v : View). total f v.drawn) (set s.views id w) ≡ total_below f n + f n = omega arith in d ∙ ap (total_below f) (sym word);
+            let d : total (λ (v : View). total f v.drawn) (set s.views id w) ≡ added_below f n + f n = omega arith in d ∙ ap (added_below f) (sym word);
         shares_sum = let a = k.shares_sum in let b = total-set (λ (v : View). v.shares + v.given_up) s.views id m.0 w at in omega arith;
         each_fits = λ j u e. ⊎_elim (λ p. inr (subst (FitsTerms t) p.1 (numbered t m.0 n fits going))) (λ p. k.each_fits j u p.1) (at_set s.views id j w u e);
       },
@@ -113,7 +113,7 @@ looks t slots id m s k _ at _ =
       record {
         has_one_word = length-set s.words 0 n ∙ k.has_one_word;
         each_number_once = λ f. let a = k.each_number_once f in let b = total-set (λ (v : View). total f v.drawn) s.views id m.0 m.0 at in
-            let d : total (λ (v : View). total f v.drawn) (set s.views id m.0) ≡ total_below f n = omega arith in d ∙ ap (total_below f) (sym word);
+            let d : total (λ (v : View). total f v.drawn) (set s.views id m.0) ≡ added_below f n = omega arith in d ∙ ap (added_below f) (sym word);
         shares_sum = let a = k.shares_sum in let b = total-set (λ (v : View). v.shares + v.given_up) s.views id m.0 m.0 at in omega arith;
         each_fits = λ j u e. ⊎_elim (λ p. subst (λ (x : View). (x ≡ spent_view) ⊎ FitsTerms t x) p.1 (k.each_fits id m.0 at)) (λ p. k.each_fits j u p.1) (at_set s.views id j m.0 u e);
       },

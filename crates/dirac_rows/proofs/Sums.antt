@@ -5,7 +5,7 @@ use mathlib.Core.Logic.{dite}
 use native.Mathlib.Decide.{ℕ_discrete, dec_le}
 use mathlib.Core.Option.{some, some-injective, some-ne-none}
 use lib.ListN.{get_elem?}
-use Rattle.dirac_rows.specs.Weights.{total, total_below, times}
+use Rattle.dirac_rows.specs.Weights.{total, added_below, times}
 
 abbrev pub one_if : Bool → ℕ
 one_if b = if b then 1 else 0
@@ -60,13 +60,13 @@ module _ {A : Type 0} where
   total_le f g [] h = omega arith
   total_le f g (x ∷ xs) h = omega (arith, h 0 x refl, total_le f g xs (λ j v e. h (suc j) v e))
 
-pub below_only : (x n : ℕ) → (x < n → total_below (weight_at x) n ≡ 1) × (n ≤ x → total_below (weight_at x) n ≡ 0)
+pub below_only : (x n : ℕ) → (x < n → added_below (weight_at x) n ≡ 1) × (n ≤ x → added_below (weight_at x) n ≡ 0)
 below_only x zero = (λ h. absurd (omega arith), λ _. refl)
 below_only x (suc n) = let before = below_only x n in dite (ℕ_discrete n x)
     (λ e. let here : weight_at x n ≡ 1 = ap one_if (eq-eqb n x e) in let b = before.1 (omega arith) in (λ h. omega arith, λ h. absurd (omega arith)))
     (λ ne. let not_here : weight_at x n ≡ 0 = ap one_if (ne_eqb n x ne) in (λ h. let b = before.0 (omega arith) in omega arith, λ h. let b = before.1 (omega arith) in omega arith))
 
-pub below_past : (rows n : ℕ) → (n ≤ rows → total_below (weight_past rows) n ≡ 0) × (rows ≤ n → total_below (weight_past rows) n + rows ≡ n)
+pub below_past : (rows n : ℕ) → (n ≤ rows → added_below (weight_past rows) n ≡ 0) × (rows ≤ n → added_below (weight_past rows) n + rows ≡ n)
 below_past rows zero = (λ _. refl, λ h. omega arith)
 below_past rows (suc n) = let before = below_past rows n in dite (dec_le rows n)
     (λ le. let here : weight_past rows n ≡ 1 = ap zero_if (le-ltb n rows le) in let b = before.1 le in (λ h. absurd (omega arith), λ h. omega arith))

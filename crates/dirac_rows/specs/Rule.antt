@@ -4,7 +4,7 @@ use Rattle.std.specs.Prelude.{List, [], ◌∷◌, ◌++◌, length, slice_index
 use mathlib.Core.Option.{some}
 use lib.ListN.{get_elem?}
 use Rattle.atomic_table.specs.Table.{State, Me, Step}
-use Rattle.dirac_rows.specs.Weights.{total, total_below, past_rows, times}
+use Rattle.dirac_rows.specs.Weights.{total, added_below, past_rows, times}
 use Rattle.dirac_rows.specs.declared.view.View.{View}
 use Rattle.dirac_rows.specs.declared.view.Terms.{Terms}
 
@@ -56,7 +56,7 @@ pub record FitsTerms (t : Terms) (v : View) : Type 0 where
 -- equal under every weight f. The shares, with those given up, sum to the number of seats.
 pub record KeepsRule (t : Terms) (s : State (Unit {0}) View) : Type 0 where
   pub has_one_word : length s.words ≡ 1
-  pub each_number_once : (f : ℕ → ℕ) → total (λ v. total f v.drawn) s.views ≡ total_below f (slice_index s.words 0)
+  pub each_number_once : (f : ℕ → ℕ) → total (λ v. total f v.drawn) s.views ≡ added_below f (slice_index s.words 0)
   pub shares_sum : total (λ v. v.shares + v.given_up) s.views ≡ t.seats
   pub each_fits : (seat : ℕ) (v : View) → get_elem? s.views seat ≡ some v → (v ≡ spent_view) ⊎ FitsTerms t v
 

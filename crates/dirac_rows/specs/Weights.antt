@@ -7,9 +7,9 @@ total f [] = 0
 total f (x ∷ xs) = f x + total f xs
 
 -- f of each number below n, added up
-abbrev pub total_below : (ℕ → ℕ) → ℕ → ℕ
-total_below f zero = 0
-total_below f (suc n) = total_below f n + f n
+abbrev pub added_below : (ℕ → ℕ) → ℕ → ℕ
+added_below f zero = 0
+added_below f (suc n) = added_below f n + f n
 
 -- how many times x stands in the list
 abbrev pub times : ℕ → List ℕ → ℕ

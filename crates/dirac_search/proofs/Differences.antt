@@ -93,10 +93,6 @@ rows_whole g l w v s r es er =
     sum_same (λ k. whole_row_apart s r w.x (w.y + k) v w.columns) (λ k. sum_below (λ x. difference g (stage.Coarse l) v (w.x + x) (w.y + k)) w.columns) w.rows
     (λ k _. whole_row_is g l v w.x (w.y + k) w.columns s r es er)
 
-pub rows_finer : (g : Searched) (l : ℕ) (w : Window) (v : Vector) → distortion g (stage.Coarse l) w v ≡ distortion g (stage.Finer l) w v
-unfolding difference
-rows_finer g l w v = refl
-
 -- and in parts of a sample
 pub rows_sub : (g : Searched) (q : ℕ) (w : Window) (v : Vector) (s : Table) → s ≡ get_or g.source 0 no_plane → sub_rows s g.up q w v w.rows ≡ distortion g (stage.Sub q) w v
 rows_sub g q w v s es =
@@ -107,3 +103,8 @@ rows_sub g q w v s es =
 pub cost_is : (g : Searched) (bias : ℕ) (st : Stage) (w : Window) (v : Vector) (bits : ℕ) → bits ≡ bias * bits_of_vector v → bits + distortion g st w v ≡ window_cost g bias st w v
 unfolding window_cost
 cost_is g bias st w v bits e = ap (λ b. b + distortion g st w v) e
+
+-- a finer level costs as a coarse one
+pub finer_cost : (g : Searched) (bias l : ℕ) (w : Window) (v : Vector) → window_cost g bias (stage.Coarse l) w v ≡ window_cost g bias (stage.Finer l) w v
+unfolding window_cost difference
+finer_cost g bias l w v = refl

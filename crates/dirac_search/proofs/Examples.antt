@@ -4,7 +4,7 @@ use Rattle.dirac_common.specs.Numbers.{digits_of, digits_within}
 use Rattle.dirac_common.specs.Table.{Table}
 use Rattle.dirac_costs.specs.Least.{first_least}
 use Rattle.dirac_search.specs.declared.stage.Stage.TheVariants as stage
-use Rattle.dirac_search.specs.ByRows.{by_rows}
+use Rattle.dirac_search.specs.ByRows.{listed_by_rows}
 use Rattle.dirac_search.specs.Candidates.{around, candidates_of, no_motion, vector}
 use Rattle.dirac_search.specs.Costs.{cost_of, difference, window_cost}
 use Rattle.dirac_search.specs.Given.{Searched}
@@ -33,7 +33,7 @@ none_costs = refl
 
 -- with bias 0 the first candidate is best
 first_is_best : first_least (cost_of flat_search 0 (stage.Coarse 0) 0 0) no_motion (around no_motion 1) ≡ no_motion
-unfolding window_cost difference digits_of digits_within by_rows
+unfolding window_cost difference digits_of digits_within listed_by_rows
 first_is_best = refl
 
 -- candidates go by rows, from the top left
@@ -42,5 +42,5 @@ in_order : candidates_of (stage.Coarse 0) 1 None 0 0 ≡
     ∷ vector (negsuc 0) (negsuc 0) ∷ vector (pos 0) (negsuc 0) ∷ vector (pos 1) (negsuc 0)
     ∷ vector (negsuc 0) (pos 0) ∷ vector (pos 0) (pos 0) ∷ vector (pos 1) (pos 0)
     ∷ vector (negsuc 0) (pos 1) ∷ vector (pos 0) (pos 1) ∷ vector (pos 1) (pos 1) ∷ []
-unfolding by_rows
+unfolding listed_by_rows
 in_order = refl

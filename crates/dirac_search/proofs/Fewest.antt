@@ -1,5 +1,5 @@
 -- The fewest bits of a vector with motion, and what follows for the first of least cost.
-use Rattle.std.proofs.Common.{◌≡◌, ◌⊎◌, ℕ, zero, suc, ℤ, pos, negsuc, ◌+◌, ◌-◌, ◌*◌, ◌/◌, ◌%◌, ◌==◌, ◌≤◌, unsigned_abs, Bool, true, false, List, [], ◌∷◌, length, length-append, arith, refl, inl, inr, ap, sym, subst}
+use Rattle.std.proofs.Common.{◌≡◌, ◌⊎◌, ℕ, zero, suc, ℤ, pos, negsuc, ◌+◌, ◌-◌, ◌*◌, ◌/◌, ◌%◌, ◌==◌, ◌≤◌, unsigned_abs, Bool, true, false, List, [], ◌∷◌, length, length-append, arith, refl, inl, inr, sym, subst}
 use Rattle.std.proofs.lemmas.Bool.{le-ltb}
 use Rattle.dirac_common.specs.Numbers.{digits_of, digits_within, followed, sint, uint}
 use Rattle.dirac_common.specs.declared.formats.Vector.{Vector}

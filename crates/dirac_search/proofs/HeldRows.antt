@@ -1,5 +1,5 @@
 -- Rows of samples that are compared in bytes.
-use Rattle.std.proofs.Common.{◌≡◌, ℕ, zero, suc, ℤ, pos, negsuc, ◌+◌, ◌-◌, ◌*◌, ◌/◌, ◌%◌, ◌^◌, ◌<◌, ◌≤◌, ◌+ℤ◌, ◌-ℤ◌, ◌*ℤ◌, ◌≤ℤ◌, unsigned_abs, List, length, take, get_or, refl, ap, ap₂, sym, ◌∙◌, arith, inl, inr, subst}
+use Rattle.std.proofs.Common.{◌≡◌, ℕ, zero, suc, ℤ, pos, negsuc, ◌+◌, ◌-◌, ◌*◌, ◌/◌, ◌%◌, ◌^◌, ◌<◌, ◌≤◌, ◌+ℤ◌, ◌-ℤ◌, ◌*ℤ◌, List, length, take, get_or, refl, ap, ap₂, sym, ◌∙◌, arith, inl, inr, subst}
 use Rattle.std.proofs.lemmas.Bool.{cases_lt}
 use Rattle.std.proofs.lemmas.Int.{ints}
 use Rattle.std.proofs.lemmas.List.{get_or-take, get_or-append_right, length-take-le}
@@ -8,19 +8,21 @@ use Rattle.std.proofs.lemmas.Slice.{take-put_mid, take-put_mid_below}
 use borrow.Rule.Slice.PartMut.{put_mid}
 use Rattle.dirac_common.specs.Table.{Table, clamped_at, clamped_to, table_at}
 use Rattle.dirac_common.specs.declared.formats.Vector.{Vector}
-use Rattle.dirac_upconvert.specs.SubSamples.{Up, bilinear, four, place_at, rest_at, rounded, sub_sample}
+use Rattle.dirac_upconvert.specs.SubSamples.{IsUp, Up, bilinear, sum_of_four, place_at, rest_at, rounded, sub_sample}
 use Rattle.dirac_upconvert.proofs.PartRows.{four_at_place}
 use Rattle.dirac_upconvert.proofs.SampleRows.{sample_of_part}
 use Rattle.dirac_costs.specs.Sums.{sum_below}
-use Rattle.dirac_costs.specs.Windows.{row_from, values_apart, values_from}
+use Rattle.dirac_costs.specs.Windows.{row_from, values_from}
 use Rattle.dirac_costs.proofs.Sums.{sum_same}
 use Rattle.dirac_pyramid.specs.Pyramid.{mean_of_four}
 use Rattle.dirac_search.specs.declared.byte_sums.Corners.{Corners}
 use Rattle.dirac_search.specs.declared.byte_sums.Strided.{Strided}
+use Rattle.dirac_search.specs.declared.bytes.Bytes.{Bytes}
 use Rattle.dirac_search.specs.declared.sub_bytes.Spot.{Spot}
 use Rattle.dirac_search.specs.declared.tried.Tried.{Tried}
-use Rattle.dirac_search.specs.InBytes.{AreHalves, IsHeld, apart_from_mean, corners_at, half_line, mean_behind, row_at, start_of, strided_means, strided_rows}
-use Rattle.dirac_search.specs.Rows.{apart_at, sub_row_apart, sub_row_from, sub_rows}
+use Rattle.dirac_search.specs.InBytes.{AreBytes, AreHalfSampleLines, HasSpot, HasAllSamplesOfWindow, IsSpot, apart_from_mean, corners_at, half_line, mean_behind, row_at, start_of, strided_means, strided_rows}
+use Rattle.dirac_search.specs.Rows.{apart_at, sub_row_apart, sub_row_from}
+use Rattle.dirac_search.specs.Tried.{sub_sum}
 use Rattle.dirac_search.proofs.Differences.{apart_same, inside_place}
 
 -- a list of which a part is written over: before that part, and in it
@@ -48,14 +50,21 @@ lines_more c j m a q f xs ws h start len fits next row k n across l = elim (case
 ]
 
 -- a position of whole places
-pub place_zero : (x : ℤ) → place_at x 0 ≡ x
+place_zero : (x : ℤ) → place_at x 0 ≡ x
 place_zero (pos n) = omega (arith, ints)
 place_zero (negsuc n) = omega (arith, ints)
 
-pub rest_zero : (x : ℤ) → rest_at x 0 ≡ pos 0
+rest_zero : (x : ℤ) → rest_at x 0 ≡ pos 0
 rest_zero x = apart x (place_at x 0) (place_zero x) where
   apart : (x p : ℤ) → p ≡ x → x -ℤ p *ℤ pos 1 ≡ pos 0
   apart x p e = omega (arith, ints, e)
+
+-- the spot of a position in halves of a sample, and in quarters
+pub spot_one : (q n : ℕ) → q ≡ 1 → HasSpot q (pos n) (record { place = n; rest = 0 })
+spot_one q n e = rw e (record { place = place_zero (pos n); rest = rest_zero (pos n); near = omega arith })
+
+pub spot_two : (q n : ℕ) → q ≡ 2 → HasSpot q (pos n) (record { place = n / 2; rest = n % 2 })
+spot_two q n e = rw e (record { place = refl; rest = omega (arith, ints); near = omega arith })
 
 -- a position inside is itself
 clamped_inside : (t : Table) (x y : ℤ) (i j : ℕ) → x ≡ pos i → y ≡ pos j → i < t.width → j < t.height → clamped_at t x y ≡ table_at t i j
@@ -89,7 +98,7 @@ source_place t values x y first k ev e inside fits l =
     ap₂ (λ (vs : List ℤ) (i : ℕ). get_or vs i (pos 0)) ev at ∙ ap₂ (λ (i j : ℕ). get_or t.values (j * t.width + i) (pos 0)) (sym column) (sym row)
 
 -- a sample of a line, k places behind the start of row r
-half_place : (u : Up) (values : List ℤ) (x y r k at : ℕ) → AreHalves u values → at ≡ start_of (u.width - 1) x y + r * (4 * (u.width - 1))
+half_place : (u : Up) (values : List ℤ) (x y r k at : ℕ) → AreHalfSampleLines u values → at ≡ start_of (u.width - 1) x y + r * (4 * (u.width - 1))
     → x + 2 * k < 2 * (u.width - 1) → (y + 2 * r) < 2 * u.height - 1 → values_from values at k ≡ table_at u.table (x + 2 * k) (y + 2 * r)
 half_place u values x y r k at are e across down =
     let c = u.width - 1 in
@@ -106,41 +115,38 @@ half_place u values x y r k at are e across down =
     place_is c odd half y r k at e = omega (arith, e)
 
 -- a sample to which a vector leads, from the places round it
-sample_at_part : (u : Up) (q x y r k : ℕ) (v : Vector) (across down right below : ℤ) → 1 ≤ q → q ≤ 2
-    → across ≡ place_at (pos (2 ^ q * x) +ℤ v.x) (q - 1) → down ≡ place_at (pos (2 ^ q * y) +ℤ v.y) (q - 1)
-    → right ≡ rest_at (pos (2 ^ q * x) +ℤ v.x) (q - 1) → below ≡ rest_at (pos (2 ^ q * y) +ℤ v.y) (q - 1)
-    → rounded (2 * (q - 1)) (bilinear u.table (2 ^ (q - 1)) (across +ℤ pos (2 * k)) (down +ℤ pos (2 * r)) right below) ≡ sub_row_from u q x (y + r) v k
-sample_at_part u q x y r k v across down right below some few ea ed er eb =
+sample_at_part : (u : Up) (q x y r k : ℕ) (v : Vector) (m n : Spot) → 1 ≤ q → q ≤ 2 → IsSpot q x v.x m → IsSpot q y v.y n
+    → rounded (2 * (q - 1)) (bilinear u.table (2 ^ (q - 1)) (pos m.place +ℤ pos (2 * k)) (pos n.place +ℤ pos (2 * r)) (pos m.rest) (pos n.rest)) ≡ sub_row_from u q x (y + r) v k
+sample_at_part u q x y r k v m n some few h o =
     let bits = q - 1 in
     let px = pos (2 ^ q * x) +ℤ v.x in
     let py = pos (2 ^ q * y) +ℤ v.y in
     let parts : 2 ^ q * (y + r) ≡ 2 ^ q * y + 2 ^ q * r = omega arith in
     let row : py +ℤ pos (2 ^ q * r) ≡ pos (2 ^ q * (y + r)) +ℤ v.y = omega (arith, ints) in
-    ap₂ (λ (a b : ℤ). rounded (2 * bits) (bilinear u.table (2 ^ bits) (a +ℤ pos (2 * k)) (b +ℤ pos (2 * r)) right below)) ea ed
-    ∙ ap₂ (λ (a b : ℤ). rounded (2 * bits) (bilinear u.table (2 ^ bits) (place_at px bits +ℤ pos (2 * k)) (place_at py bits +ℤ pos (2 * r)) a b)) er eb
+    sym
+    (ap₂ (λ (a b : ℤ). rounded (2 * bits) (bilinear u.table (2 ^ bits) (a +ℤ pos (2 * k)) (b +ℤ pos (2 * r)) (rest_at px bits) (rest_at py bits))) h.place o.place
+    ∙ ap₂ (λ (a b : ℤ). rounded (2 * bits) (bilinear u.table (2 ^ bits) (pos m.place +ℤ pos (2 * k)) (pos n.place +ℤ pos (2 * r)) a b)) h.rest o.rest)
     ∙ sample_of_part u q bits px py r k (omega arith) (omega arith)
     ∙ ap (λ b. sub_sample u q (px +ℤ pos (2 ^ q * k)) b) row
 
 -- a row of eight samples that are places
-pub row_of_places : (s : Table) (u : Up) (q x y r : ℕ) (v : Vector) (a b : List ℤ) (first at i j : ℕ) (across down right below : ℤ) → 1 ≤ q → q ≤ 2
-    → across ≡ place_at (pos (2 ^ q * x) +ℤ v.x) (q - 1) → down ≡ place_at (pos (2 ^ q * y) +ℤ v.y) (q - 1)
-    → right ≡ rest_at (pos (2 ^ q * x) +ℤ v.x) (q - 1) → below ≡ rest_at (pos (2 ^ q * y) +ℤ v.y) (q - 1)
+row_of_places : (s : Table) (u : Up) (q x y r : ℕ) (v : Vector) (m n : Spot) (a b : List ℤ) (first at : ℕ) → 1 ≤ q → q ≤ 2 → IsSpot q x v.x m → IsSpot q y v.y n → m.rest ≡ 0 → n.rest ≡ 0
     → u.table.width ≡ 2 * u.width - 1 → u.table.height ≡ 2 * u.height - 1
-    → a ≡ s.values → AreHalves u b → first ≡ (y + r) * s.width + x → y + r < s.height → x + 8 ≤ s.width
-    → at ≡ start_of (u.width - 1) i j + r * (4 * (u.width - 1)) → across ≡ pos i → down ≡ pos j → right ≡ pos 0 → below ≡ pos 0
-    → i + 14 < 2 * (u.width - 1) → j + 2 * r < 2 * u.height - 1
+    → a ≡ s.values → AreHalfSampleLines u b → first ≡ (y + r) * s.width + x → y + r < s.height → x + 8 ≤ s.width
+    → at ≡ start_of (u.width - 1) m.place n.place + r * (4 * (u.width - 1)) → m.place + 14 < 2 * (u.width - 1) → n.place + 2 * r < 2 * u.height - 1
     → sum_below (apart_at a first b at) 8 ≡ sub_row_apart s u q x (y + r) v 8
 unfolding apart_at sub_row_apart
-row_of_places s u q x y r v a b first at i j across down right below some few ea ed er eb ew eh es are ef inside fits eat ei ej none_right none_below fx fy =
+row_of_places s u q x y r v m n a b first at some few h o none_right none_below ew eh es are ef inside fits eat fx fy =
     apart_same (values_from a first) (row_from s x (y + r)) (values_from b at) (sub_row_from u q x (y + r) v) 8
     (λ k l. source_place s a x (y + r) first k es ef inside fits l)
     (λ k l.
-    half_place u b i j r k at are eat (omega (arith, fx, l)) fy
-    ∙ sym (clamped_inside u.table (across +ℤ pos (2 * k)) (down +ℤ pos (2 * r)) (i + 2 * k) (j + 2 * r) (omega (arith, ints, ei)) (omega (arith, ints, ej)) (omega (arith, fx, l, ew)) (omega (arith, fy, eh)))
-    ∙ sym (four_at_place (q - 1) (clamped_at u.table (across +ℤ pos (2 * k)) (down +ℤ pos (2 * r))) (clamped_at u.table ((across +ℤ pos (2 * k)) +ℤ pos 1) (down +ℤ pos (2 * r)))
-    (clamped_at u.table (across +ℤ pos (2 * k)) ((down +ℤ pos (2 * r)) +ℤ pos 1)) (clamped_at u.table ((across +ℤ pos (2 * k)) +ℤ pos 1) ((down +ℤ pos (2 * r)) +ℤ pos 1)) (omega arith))
-    ∙ ap₂ (λ (m n : ℤ). rounded (2 * (q - 1)) (bilinear u.table (2 ^ (q - 1)) (across +ℤ pos (2 * k)) (down +ℤ pos (2 * r)) m n)) (sym none_right) (sym none_below)
-    ∙ sample_at_part u q x y r k v across down right below some few ea ed er eb)
+    let px = pos m.place +ℤ pos (2 * k) in
+    let py = pos n.place +ℤ pos (2 * r) in
+    half_place u b m.place n.place r k at are eat (omega (arith, fx, l)) fy
+    ∙ sym (clamped_inside u.table px py (m.place + 2 * k) (n.place + 2 * r) refl refl (omega (arith, fx, l, ew)) (omega (arith, fy, eh)))
+    ∙ sym (four_at_place (q - 1) (clamped_at u.table px py) (clamped_at u.table (px +ℤ pos 1) py) (clamped_at u.table px (py +ℤ pos 1)) (clamped_at u.table (px +ℤ pos 1) (py +ℤ pos 1)) (omega arith))
+    ∙ ap₂ (λ (i j : ℕ). rounded (2 * (q - 1)) (bilinear u.table (2 ^ (q - 1)) px py (pos i) (pos j))) (sym none_right) (sym none_below)
+    ∙ sample_at_part u q x y r k v m n some few h o)
 
 -- the first of two values, or the second
 abbrev pick : ℕ → ℤ → ℤ → ℤ
@@ -162,44 +168,45 @@ corner t x y i j right (suc (suc n)) few near ex ey l k = absurd (omega arith)
 
 -- the mean of four corners is the sample between them
 corners_mixed : (right below : ℕ) (p q r s : ℤ) → right ≤ 1 → below ≤ 1
-    → mean_of_four p (pick right p q) (pick below p r) (pick below (pick right p q) (pick right r s)) ≡ rounded 2 (four 2 (pos right) (pos below) p q r s)
+    → mean_of_four p (pick right p q) (pick below p r) (pick below (pick right p q) (pick right r s)) ≡ rounded 2 (sum_of_four 2 (pos right) (pos below) p q r s)
 corners_mixed zero zero p q r s few near = ap (λ z. rounded 2 z) (sum p q r s) where
-  sum : (p q r s : ℤ) → (p +ℤ p) +ℤ (p +ℤ p) ≡ four 2 (pos 0) (pos 0) p q r s
+  sum : (p q r s : ℤ) → (p +ℤ p) +ℤ (p +ℤ p) ≡ sum_of_four 2 (pos 0) (pos 0) p q r s
   sum p q r s = omega (arith, ints)
 corners_mixed (suc zero) zero p q r s few near = ap (λ z. rounded 2 z) (sum p q r s) where
-  sum : (p q r s : ℤ) → (p +ℤ q) +ℤ (p +ℤ q) ≡ four 2 (pos 1) (pos 0) p q r s
+  sum : (p q r s : ℤ) → (p +ℤ q) +ℤ (p +ℤ q) ≡ sum_of_four 2 (pos 1) (pos 0) p q r s
   sum p q r s = omega (arith, ints)
 corners_mixed zero (suc zero) p q r s few near = ap (λ z. rounded 2 z) (sum p q r s) where
-  sum : (p q r s : ℤ) → (p +ℤ p) +ℤ (r +ℤ r) ≡ four 2 (pos 0) (pos 1) p q r s
+  sum : (p q r s : ℤ) → (p +ℤ p) +ℤ (r +ℤ r) ≡ sum_of_four 2 (pos 0) (pos 1) p q r s
   sum p q r s = omega (arith, ints)
 corners_mixed (suc zero) (suc zero) p q r s few near = ap (λ z. rounded 2 z) (sum p q r s) where
-  sum : (p q r s : ℤ) → (p +ℤ q) +ℤ (r +ℤ s) ≡ four 2 (pos 1) (pos 1) p q r s
+  sum : (p q r s : ℤ) → (p +ℤ q) +ℤ (r +ℤ s) ≡ sum_of_four 2 (pos 1) (pos 1) p q r s
   sum p q r s = omega (arith, ints)
 corners_mixed (suc (suc n)) below p q r s few near = absurd (omega arith)
 corners_mixed zero (suc (suc n)) p q r s few near = absurd (omega arith)
 corners_mixed (suc zero) (suc (suc n)) p q r s few near = absurd (omega arith)
 
 -- a row of eight samples in quarters
-pub row_of_quarters : (s : Table) (u : Up) (x y r : ℕ) (v : Vector) (a b : List ℤ) (c : Corners) (first i j right below : ℕ) (across down : ℤ)
-    → across ≡ place_at (pos (2 ^ 2 * x) +ℤ v.x) 1 → down ≡ place_at (pos (2 ^ 2 * y) +ℤ v.y) 1
-    → pos right ≡ rest_at (pos (2 ^ 2 * x) +ℤ v.x) 1 → pos below ≡ rest_at (pos (2 ^ 2 * y) +ℤ v.y) 1
+row_of_quarters : (s : Table) (u : Up) (x y r : ℕ) (v : Vector) (m n : Spot) (a b : List ℤ) (c : Corners) (first : ℕ) → IsSpot 2 x v.x m → IsSpot 2 y v.y n
     → u.table.width ≡ 2 * u.width - 1 → u.table.height ≡ 2 * u.height - 1
-    → a ≡ s.values → AreHalves u b → first ≡ (y + r) * s.width + x → y + r < s.height → x + 8 ≤ s.width
-    → c.left ≡ start_of (u.width - 1) i j + r * (4 * (u.width - 1)) → c.right ≡ start_of (u.width - 1) (i + right) j + r * (4 * (u.width - 1)) → c.under ≡ below * (2 * (u.width - 1))
-    → across ≡ pos i → down ≡ pos j → right ≤ 1 → below ≤ 1
-    → i + 14 + right < 2 * (u.width - 1) → j + 2 * r + below < 2 * u.height - 1
+    → a ≡ s.values → AreHalfSampleLines u b → first ≡ (y + r) * s.width + x → y + r < s.height → x + 8 ≤ s.width
+    → c.left ≡ start_of (u.width - 1) m.place n.place + r * (4 * (u.width - 1)) → c.right ≡ start_of (u.width - 1) (m.place + m.rest) n.place + r * (4 * (u.width - 1))
+    → c.under ≡ n.rest * (2 * (u.width - 1)) → m.place + 14 + m.rest < 2 * (u.width - 1) → n.place + 2 * r + n.rest < 2 * u.height - 1
     → sum_below (apart_from_mean a first b c) 8 ≡ sub_row_apart s u 2 x (y + r) v 8
 unfolding apart_from_mean sub_row_apart
-row_of_quarters s u x y r v a b c first i j right below across down ea ed er eb ew eh es are ef inside fits el en eu ei ej few near fx fy =
+row_of_quarters s u x y r v m n a b c first h o ew eh es are ef inside fits el en eu fx fy =
+    let i = m.place in
+    let j = n.place in
+    let right = m.rest in
+    let below = n.rest in
+    let few = h.near in
+    let near = o.near in
     apart_same (values_from a first) (row_from s x (y + r)) (mean_behind b c) (sub_row_from u 2 x (y + r) v) 8
     (λ k l. source_place s a x (y + r) first k es ef inside fits l)
     (λ k l.
     let t = u.table in
-    let px = across +ℤ pos (2 * k) in
-    let py = down +ℤ pos (2 * r) in
-    let ex : px ≡ pos (i + 2 * k) = omega (arith, ints, ei) in
-    let ey : py ≡ pos (j + 2 * r) = omega (arith, ints, ej) in
-    let at = λ (m n : ℕ) (hm : m ≤ right) (hn : n ≤ below). corner t px py (i + 2 * k) (j + 2 * r) m n (omega (arith, hm, few)) (omega (arith, hn, near)) ex ey (omega (arith, fx, l, ew, hm)) (omega (arith, fy, eh, hn)) in
+    let px = pos i +ℤ pos (2 * k) in
+    let py = pos j +ℤ pos (2 * r) in
+    let at = λ (m n : ℕ) (hm : m ≤ right) (hn : n ≤ below). corner t px py (i + 2 * k) (j + 2 * r) m n (omega (arith, hm, few)) (omega (arith, hn, near)) refl refl (omega (arith, fx, l, ew, hm)) (omega (arith, fy, eh, hn)) in
     let left_above : values_from b c.left k ≡ table_at t ((i + 2 * k) + 0) ((j + 2 * r) + 0) =
     half_place u b i j r k c.left are el (omega (arith, fx, l)) (omega (arith, fy)) ∙ ap₂ (λ (m n : ℕ). table_at t m n) (none (i + 2 * k)) (none (j + 2 * r)) in
     let right_above : values_from b c.right k ≡ table_at t ((i + 2 * k) + right) ((j + 2 * r) + 0) =
@@ -211,7 +218,7 @@ row_of_quarters s u x y r v a b c first i j right below across down ea ed er eb 
     ap₂ (λ (m n : ℤ). mean_of_four m n (values_from b (c.left + c.under) k) (values_from b (c.right + c.under) k)) (left_above ∙ at 0 0 (omega arith) (omega arith)) (right_above ∙ at right 0 (omega arith) (omega arith))
     ∙ ap₂ (λ (m n : ℤ). mean_of_four (clamped_at t px py) (pick right (clamped_at t px py) (clamped_at t (px +ℤ pos 1) py)) m n) (left_below ∙ at 0 below (omega arith) (omega arith)) (right_below ∙ at right below (omega arith) (omega arith))
     ∙ corners_mixed right below (clamped_at t px py) (clamped_at t (px +ℤ pos 1) py) (clamped_at t px (py +ℤ pos 1)) (clamped_at t (px +ℤ pos 1) (py +ℤ pos 1)) few near
-    ∙ sample_at_part u 2 x y r k v across down (pos right) (pos below) (omega arith) (omega arith) ea ed er eb)
+    ∙ sample_at_part u 2 x y r k v m n (omega arith) (omega arith) h o)
   where
     none : (n : ℕ) → n ≡ n + 0
     none n = omega arith
@@ -230,45 +237,38 @@ source_row : (y w x r : ℕ) (left : Strided) → left.first ≡ y * w + x → l
 source_row y w x r left ef el = row_moved r left.first left.step (y * w + x) w ef el ∙ omega arith
 
 -- all rows of a window
-pub places_are : (s : Table) (u : Up) (q : ℕ) (x y : Spot) (t : Tried) (a b : List ℤ) (left right : Strided) (i j : ℕ) → 1 ≤ q → q ≤ 2 → IsHeld s u q x y t
-    → u.table.width ≡ 2 * u.width - 1 → u.table.height ≡ 2 * u.height - 1 → a ≡ s.values → AreHalves u b
-    → left.first ≡ t.window.y * s.width + t.window.x → left.step ≡ s.width → right.first ≡ start_of (u.width - 1) i j → right.step ≡ 4 * (u.width - 1)
-    → x.place ≡ pos i → y.place ≡ pos j → x.rest ≡ pos 0 → y.rest ≡ pos 0
-    → t.first + sum_below (strided_rows a left b right) t.window.rows ≡ t.first + sub_rows s u q t.window t.v t.window.rows
-places_are s u q x y t a b left right i j some few held ew eh es are ef el er et ei ej none_x none_y =
+pub places_are : (s : Table) (u : Up) (q : ℕ) (x y : Spot) (t : Tried) (b : Bytes) (left right : Strided) → 1 ≤ q → q ≤ 2 → HasAllSamplesOfWindow s u q x y t → IsUp u.width u.height u.table → AreBytes s u b
+    → left.first ≡ t.window.y * s.width + t.window.x → left.step ≡ s.width → right.first ≡ start_of (u.width - 1) x.place y.place → right.step ≡ 4 * (u.width - 1)
+    → x.rest ≡ 0 → y.rest ≡ 0 → t.first + sum_below (strided_rows b.source.items left b.halves.items right) t.window.rows ≡ sub_sum s u q t
+places_are s u q x y t b left right some few held up bytes ef el er et none_x none_y =
     let w = t.window in
     ap (λ n. t.first + n)
-    (sum_same (strided_rows a left b right) (λ r. sub_row_apart s u q w.x (w.y + r) t.v w.columns) w.rows
+    (sum_same (strided_rows b.source.items left b.halves.items right) (λ r. sub_row_apart s u q w.x (w.y + r) t.v w.columns) w.rows
     (λ r l.
-    row_of_places s u q w.x w.y r t.v a b (row_at left r) (row_at right r) i j x.place y.place x.rest y.rest some few
-    held.spot_x.place held.spot_y.place held.spot_x.rest held.spot_y.rest ew eh es are (source_row w.y s.width w.x r left ef el) (omega (arith, held.source_bottom, l)) held.source_right
-    (row_moved r right.first right.step _ _ er et) ei ej none_x none_y (omega (arith, ints, held.right.1, ei, none_x)) (omega (arith, ints, held.bottom.1, ej, none_y, l))
+    row_of_places s u q w.x w.y r t.v x y b.source.items b.halves.items (row_at left r) (row_at right r) some few held.across.spot held.down.spot none_x none_y
+    up.across up.down bytes.source bytes.halves (source_row w.y s.width w.x r left ef el) (omega (arith, held.source_bottom, l)) held.source_right
+    (row_moved r right.first right.step _ _ er et) (omega (arith, held.across.inside)) (omega (arith, held.down.inside, l))
     ∙ ap (sub_row_apart s u q w.x (w.y + r) t.v) (sym held.columns)))
 
-quarters_are : (s : Table) (u : Up) (x y : Spot) (t : Tried) (a b : List ℤ) (left : Strided) (c : Corners) (step i j right below : ℕ) → IsHeld s u 2 x y t
-    → u.table.width ≡ 2 * u.width - 1 → u.table.height ≡ 2 * u.height - 1 → a ≡ s.values → AreHalves u b
-    → left.first ≡ t.window.y * s.width + t.window.x → left.step ≡ s.width → c.left ≡ start_of (u.width - 1) i j → c.right ≡ start_of (u.width - 1) (i + right) j
-    → c.under ≡ below * (2 * (u.width - 1)) → step ≡ 4 * (u.width - 1) → x.place ≡ pos i → y.place ≡ pos j → x.rest ≡ pos right → y.rest ≡ pos below
-    → t.first + sum_below (strided_means a left b c step) t.window.rows ≡ t.first + sub_rows s u 2 t.window t.v t.window.rows
-quarters_are s u x y t a b left c step i j right below held ew eh es are ef el er en eu et ei ej rest_x rest_y =
+quarters_are : (s : Table) (u : Up) (x y : Spot) (t : Tried) (b : Bytes) (left : Strided) (c : Corners) (step : ℕ) → HasAllSamplesOfWindow s u 2 x y t → IsUp u.width u.height u.table → AreBytes s u b
+    → left.first ≡ t.window.y * s.width + t.window.x → left.step ≡ s.width → c.left ≡ start_of (u.width - 1) x.place y.place → c.right ≡ start_of (u.width - 1) (x.place + x.rest) y.place
+    → c.under ≡ y.rest * (2 * (u.width - 1)) → step ≡ 4 * (u.width - 1) → t.first + sum_below (strided_means b.source.items left b.halves.items c step) t.window.rows ≡ sub_sum s u 2 t
+quarters_are s u x y t b left c step held up bytes ef el er en eu et =
     let w = t.window in
     ap (λ n. t.first + n)
-    (sum_same (strided_means a left b c step) (λ r. sub_row_apart s u 2 w.x (w.y + r) t.v w.columns) w.rows
+    (sum_same (strided_means b.source.items left b.halves.items c step) (λ r. sub_row_apart s u 2 w.x (w.y + r) t.v w.columns) w.rows
     (λ r l.
-    row_of_quarters s u w.x w.y r t.v a b (corners_at c step r) (row_at left r) i j right below x.place y.place
-    held.spot_x.place held.spot_y.place (sym rest_x ∙ held.spot_x.rest) (sym rest_y ∙ held.spot_y.rest) ew eh es are (source_row w.y s.width w.x r left ef el) (omega (arith, held.source_bottom, l)) held.source_right
-    (row_moved r c.left step _ _ er et) (row_moved r c.right step _ _ en et) eu ei ej (omega (arith, ints, held.near_x.1, rest_x)) (omega (arith, ints, held.near_y.1, rest_y))
-    (omega (arith, ints, held.right.1, ei, rest_x)) (omega (arith, ints, held.bottom.1, ej, rest_y, l))
+    row_of_quarters s u w.x w.y r t.v x y b.source.items b.halves.items (corners_at c step r) (row_at left r) held.across.spot held.down.spot
+    up.across up.down bytes.source bytes.halves (source_row w.y s.width w.x r left ef el) (omega (arith, held.source_bottom, l)) held.source_right
+    (row_moved r c.left step _ _ er et) (row_moved r c.right step _ _ en et) eu (omega (arith, held.across.inside)) (omega (arith, held.down.inside, l))
     ∙ ap (sub_row_apart s u 2 w.x (w.y + r) t.v) (sym held.columns)))
 
-pub quarters_at : (s : Table) (u : Up) (q : ℕ) (x y : Spot) (t : Tried) (a b : List ℤ) (left : Strided) (c : Corners) (step i j right below : ℕ) → q ≡ 2 → IsHeld s u q x y t
-    → u.table.width ≡ 2 * u.width - 1 → u.table.height ≡ 2 * u.height - 1 → a ≡ s.values → AreHalves u b
-    → left.first ≡ t.window.y * s.width + t.window.x → left.step ≡ s.width → c.left ≡ start_of (u.width - 1) i j → c.right ≡ start_of (u.width - 1) (i + right) j
-    → c.under ≡ below * (2 * (u.width - 1)) → step ≡ 4 * (u.width - 1) → x.place ≡ pos i → y.place ≡ pos j → x.rest ≡ pos right → y.rest ≡ pos below
-    → t.first + sum_below (strided_means a left b c step) t.window.rows ≡ t.first + sub_rows s u q t.window t.v t.window.rows
-quarters_at s u q x y t a b left c step i j right below two held ew eh es are ef el er en eu et ei ej rest_x rest_y =
-    subst (λ (n : ℕ). t.first + sum_below (strided_means a left b c step) t.window.rows ≡ t.first + sub_rows s u n t.window t.v t.window.rows) (sym two)
-    (quarters_are s u x y t a b left c step i j right below (subst (λ (n : ℕ). IsHeld s u n x y t) two held) ew eh es are ef el er en eu et ei ej rest_x rest_y)
+pub quarters_at : (s : Table) (u : Up) (q : ℕ) (x y : Spot) (t : Tried) (b : Bytes) (left : Strided) (c : Corners) (step : ℕ) → q ≡ 2 → HasAllSamplesOfWindow s u q x y t → IsUp u.width u.height u.table → AreBytes s u b
+    → left.first ≡ t.window.y * s.width + t.window.x → left.step ≡ s.width → c.left ≡ start_of (u.width - 1) x.place y.place → c.right ≡ start_of (u.width - 1) (x.place + x.rest) y.place
+    → c.under ≡ y.rest * (2 * (u.width - 1)) → step ≡ 4 * (u.width - 1) → t.first + sum_below (strided_means b.source.items left b.halves.items c step) t.window.rows ≡ sub_sum s u q t
+quarters_at s u q x y t b left c step two held up bytes ef el er en eu et =
+    subst (λ (n : ℕ). t.first + sum_below (strided_means b.source.items left b.halves.items c step) t.window.rows ≡ sub_sum s u n t) (sym two)
+    (quarters_are s u x y t b left c step (subst (λ (n : ℕ). HasAllSamplesOfWindow s u n x y t) two held) up bytes ef el er en eu et)
 
 -- rows that a list has
 pub source_fits : (s : Table) (len x y rows : ℕ) (left : Strided) → len ≡ s.width * s.height → left.first ≡ y * s.width + x → left.step ≡ s.width → x + 8 ≤ s.width → y + rows ≤ s.height
@@ -291,9 +291,9 @@ lines_fit u len i j rows right len_is ef es across down r l =
     at_row c odd half j r at len all e el fits whole = omega (arith, e, el, fits, whole)
 
 -- a row further down
-pub start_under : (i j below columns c start under : ℕ) → columns ≡ c → start ≡ start_of columns i j → under ≡ below * (2 * columns) → start + under ≡ start_of c i (j + below)
-start_under i j below columns c start under ec es eu =
-    ap₂ (λ (a b : ℕ). a + b) es eu ∙ lower columns (i % 2) (i / 2) j below ∙ ap (λ n. start_of n i (j + below)) ec
+pub start_under : (i j below columns c start : ℕ) → columns ≡ c → start ≡ start_of columns i j → start + below * (2 * columns) ≡ start_of c i (j + below)
+start_under i j below columns c start ec es =
+    ap (λ a. a + below * (2 * columns)) es ∙ lower columns (i % 2) (i / 2) j below ∙ ap (λ n. start_of n i (j + below)) ec
   where
     lower : (c odd half j below : ℕ) → ((2 * j + odd) * c + half) + below * (2 * c) ≡ (2 * (j + below) + odd) * c + half
     lower c odd half j below = omega arith

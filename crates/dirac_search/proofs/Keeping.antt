@@ -1,5 +1,5 @@
 -- What is chosen among the candidates that may be taken.
-use Rattle.std.proofs.Common.{◌≡◌, ℕ, pos, ◌*◌, ◌^◌, ◌==◌, ◌<◌, ◌≤◌, ◌*ℤ◌, unsigned_abs, Bool, true, false, if◌then◌else◌, nat_lt, List, [], ◌∷◌, ◌++◌, ◌+◌, cond, take, get_or, length, Option, zero, suc, refl, ap, ap₂, sym, ◌∙◌, arith, inl, inr}
+use Rattle.std.proofs.Common.{◌≡◌, ℕ, pos, ◌^◌, ◌==◌, ◌<◌, ◌≤◌, unsigned_abs, Bool, true, false, if◌then◌else◌, nat_lt, List, [], ◌∷◌, ◌++◌, ◌+◌, cond, take, get_or, length, suc, refl, ap, ap₂, sym, ◌∙◌, arith, inl, inr}
 use Rattle.std.specs.List.{All, filter}
 use Rattle.std.proofs.lemmas.Bool.{cases_Bool, eqb-true, le-ltb, ltb-true}
 use Rattle.std.proofs.lemmas.Int.{unsigned_abs-mul}
@@ -10,8 +10,8 @@ use Rattle.std.proofs.lemmas.Nat.{mul-le}
 use Rattle.dirac_common.specs.declared.formats.Vector.{Vector}
 use Rattle.dirac_types.specs.declared.settings.Settings.{Settings}
 use Rattle.dirac_costs.specs.Least.{first_least}
-use Rattle.dirac_inside.specs.Inside.{keeps_inside, times}
-use Rattle.dirac_inside.specs.Ranges.{AreBlocks, HasTheInside, IsBounded, IsNear, is_in}
+use Rattle.dirac_inside.specs.Inside.{keeps_inside, vector_times}
+use Rattle.dirac_inside.specs.Ranges.{AreBlocks, HasTheInside, IsBounded, is_in}
 use Rattle.dirac_inside.specs.declared.range.VectorRange.{VectorRange}
 use Rattle.dirac_search.specs.declared.stage.Stage.{Stage}
 use Rattle.dirac_search.specs.declared.stage.Stage.TheVariants as stage
@@ -20,11 +20,11 @@ use Rattle.dirac_search.specs.Choices.{ChoosesAs}
 use Rattle.dirac_search.specs.Costs.{level_of_stage}
 use Rattle.dirac_search.specs.Fields.{IsSearch, IsStage}
 use Rattle.dirac_search.specs.Given.{Searched}
-use Rattle.dirac_search.specs.Kept.{blocks_of, kept, precision_of, stage_keeps}
+use Rattle.dirac_search.specs.Kept.{searched_blocks, candidates_kept, precision_of, stage_keeps}
 
 -- what holds of all holds of those that may be taken
-pub kept_all : (P : Vector → Type 0) (g : Searched) (s : Settings) (st : Stage) (i j : ℕ) (vs : List Vector) → All P vs → All P (kept g s st i j vs)
-unfolding kept
+pub kept_all : (P : Vector → Type 0) (g : Searched) (s : Settings) (st : Stage) (i j : ℕ) (vs : List Vector) → All P vs → All P (candidates_kept g s st i j vs)
+unfolding candidates_kept
 kept_all P g s st i j vs all = elim (cases_Bool (s.alike == 0)) [
   | inl every ↦ rw every all
   | inr some ↦ rw some (All-filter (stage_keeps g s st i j) P vs all)
@@ -74,8 +74,8 @@ first_passes p cost v = elim (cases_Bool (p v)) [
 ]
 
 -- among what is kept of two lists every cost chooses the same, where it does among the lists
-pub kept_chooses : (g : Searched) (s : Settings) (st : Stage) (i j : ℕ) (xs ys : List Vector) → ChoosesAs xs ys → ChoosesAs (kept g s st i j xs) (kept g s st i j ys)
-unfolding kept
+pub kept_chooses : (g : Searched) (s : Settings) (st : Stage) (i j : ℕ) (xs ys : List Vector) → ChoosesAs xs ys → ChoosesAs (candidates_kept g s st i j xs) (candidates_kept g s st i j ys)
+unfolding candidates_kept
 kept_chooses g s st i j xs ys same cost = elim (cases_Bool (s.alike == 0)) [
   | inl every ↦ rw every (same cost)
   | inr some ↦ rw some
@@ -94,14 +94,14 @@ filter_as p q (x ∷ xs) all = elim (cases_Bool (q x)) [
 ]
 
 -- sixteen times a candidate
-pub times_bounded : (n : ℕ) (v : Vector) → n ≤ 16 → IsWithinReach (2 ^ 24) v → IsBounded (times n v)
+pub times_bounded : (n : ℕ) (v : Vector) → n ≤ 16 → IsWithinReach (2 ^ 24) v → IsBounded (vector_times n v)
 times_bounded n v few is = record {
   across = omega (arith, unsigned_abs-mul (pos n) v.x, mul-le n (unsigned_abs v.x) 16 (2 ^ 24) few is.across);
   down = omega (arith, unsigned_abs-mul (pos n) v.y, mul-le n (unsigned_abs v.y) 16 (2 ^ 24) few is.down);
 }
 
 -- the blocks of what can be searched
-pub are_blocks : (g : Searched) (s : Settings) → IsSearch g s → AreBlocks (blocks_of g s)
+pub are_blocks : (g : Searched) (s : Settings) → IsSearch g s → AreBlocks (searched_blocks g s)
 are_blocks g s is = record {
   columns = is.x_separation;
   rows = is.y_separation;
@@ -119,12 +119,12 @@ fine_stage g s (stage.Finer l) is has = omega arith
 fine_stage g s (stage.Sub q) is has = omega (arith, is.precision, has.1)
 
 -- where streams needn't be shown alike all are kept, and else those that pass
-pub kept_every : (g : Searched) (s : Settings) (st : Stage) (i j : ℕ) (vs : List Vector) → s.alike ≡ 0 → kept g s st i j vs ≡ vs
-unfolding kept
+pub kept_every : (g : Searched) (s : Settings) (st : Stage) (i j : ℕ) (vs : List Vector) → s.alike ≡ 0 → candidates_kept g s st i j vs ≡ vs
+unfolding candidates_kept
 kept_every g s st i j vs e = rw e refl
 
-pub kept_passing : (g : Searched) (s : Settings) (st : Stage) (i j : ℕ) (vs : List Vector) → (s.alike ≡ 0 → ⊥) → kept g s st i j vs ≡ filter (stage_keeps g s st i j) vs
-unfolding kept
+pub kept_passing : (g : Searched) (s : Settings) (st : Stage) (i j : ℕ) (vs : List Vector) → (s.alike ≡ 0 → ⊥) → candidates_kept g s st i j vs ≡ filter (stage_keeps g s st i j) vs
+unfolding candidates_kept
 kept_passing g s st i j vs some = elim (cases_Bool (s.alike == 0)) [
   | inl none ↦ absurd (some (eqb-true s.alike 0 none))
   | inr asked ↦ rw asked refl
@@ -146,15 +146,11 @@ filter_same p list xs k n d v e l en ev fails =
     e ∙ sym (ap (λ m. filter p (take m list)) next ∙ ap (filter p) (take-suc list k d l) ∙ filter-append p (take k list) (get_or list k d ∷ [])
     ∙ ap (λ (w : Vector). filter p (take k list) ++ filter p (w ∷ [])) (sym ev) ∙ ap (λ (b : Bool). filter p (take k list) ++ cond b (v ∷ []) []) fails ∙ append-nil (filter p (take k list)))
 
--- a candidate can be asked
-pub near_is : (v : Vector) → IsWithinReach (2 ^ 24) v → IsNear v
-near_is v is = record { across = is.across; down = is.down }
-
 -- the range of a block keeps what keeps inside
-pub range_keeps : (g : Searched) (s : Settings) (st : Stage) (i j n : ℕ) (r : VectorRange) (vs : List Vector) → HasTheInside (blocks_of g s) (precision_of st) i j r → n ≡ 2 ^ level_of_stage st → n ≤ 16
-    → All (IsWithinReach (2 ^ 24)) vs → filter (λ v. is_in r (times n v)) vs ≡ filter (stage_keeps g s st i j) vs
+pub range_keeps : (g : Searched) (s : Settings) (st : Stage) (i j n : ℕ) (r : VectorRange) (vs : List Vector) → HasTheInside (searched_blocks g s) (precision_of st) i j r → n ≡ 2 ^ level_of_stage st → n ≤ 16
+    → All (IsWithinReach (2 ^ 24)) vs → filter (λ v. is_in r (vector_times n v)) vs ≡ filter (stage_keeps g s st i j) vs
 unfolding stage_keeps
 range_keeps g s st i j n r vs is e few all =
-    filter_as (λ v. is_in r (times n v)) (λ v. keeps_inside (blocks_of g s) (precision_of st) i j (times (2 ^ level_of_stage st) v)) vs
-    (λ k d l. is (times n (get_or vs k d)) (times_bounded n (get_or vs k d) few (all k d l))
-    ∙ ap (λ m. keeps_inside (blocks_of g s) (precision_of st) i j (times m (get_or vs k d))) e)
+    filter_as (λ v. is_in r (vector_times n v)) (λ v. keeps_inside (searched_blocks g s) (precision_of st) i j (vector_times (2 ^ level_of_stage st) v)) vs
+    (λ k d l. is (vector_times n (get_or vs k d)) (times_bounded n (get_or vs k d) few (all k d l))
+    ∙ ap (λ m. keeps_inside (searched_blocks g s) (precision_of st) i j (vector_times m (get_or vs k d))) e)

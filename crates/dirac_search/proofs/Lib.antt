@@ -1,6 +1,7 @@
 pub mod Accepted
 pub mod Bounds
 mod Choosing
+mod Compared
 mod Differences
 mod Examples
 mod Fewest
@@ -11,3 +12,4 @@ pub mod Keeping
 mod Lists
 mod Reaches
 mod Repeats
+mod Stopping

@@ -9,8 +9,8 @@ use Rattle.std.proofs.lemmas.List.FromFn.{get_or-map-range_with_len, length-map-
 use Rattle.dirac_common.specs.declared.formats.Vector.{Vector}
 use Rattle.dirac_search.specs.declared.stage.Stage.{Stage}
 use Rattle.dirac_search.specs.declared.stage.Stage.TheVariants as stage
-use Rattle.dirac_search.specs.ByRows.{by_rows, row_values}
-use Rattle.dirac_search.specs.Candidates.{HasFormer, IsWithinReach, Vectors, around, centre_if, centres, finer_candidates, further_candidates, near, no_motion, sub_candidates, twice, vector_at}
+use Rattle.dirac_search.specs.ByRows.{listed_by_rows, row_values}
+use Rattle.dirac_search.specs.Candidates.{HasFormer, IsWithinReach, Vectors, around, centre_if, centres, finer_candidates, further_candidates, near, no_motion, sub_candidates, twice, field_vector}
 use Rattle.dirac_search.proofs.Lists.{rows_next}
 
 -- what holds of each value holds of the list
@@ -19,13 +19,13 @@ row_all P w y f h k d l =
     let inside : k < w = omega (arith, l, length-map-range_with_len (λ x. f x y) 0 w) in
     subst P (sym (get_or-map-range_with_len (λ x. f x y) 0 w k k d inside (omega arith))) (h k inside)
 
-pub rows_all : {A : Type 0} (P : A → Type 0) (w h : ℕ) (f : ℕ → ℕ → A) → ((x y : ℕ) → x < w → y < h → P (f x y)) → All P (by_rows w h f)
-unfolding by_rows
+pub rows_all : {A : Type 0} (P : A → Type 0) (w h : ℕ) (f : ℕ → ℕ → A) → ((x y : ℕ) → x < w → y < h → P (f x y)) → All P (listed_by_rows w h f)
+unfolding listed_by_rows
 rows_all P w zero f each = All-nil P
 rows_all P w (suc h) f each =
     let next : suc h ≡ h + 1 = omega arith in
-    subst (λ n. All P (by_rows w n f)) (sym next)
-    (subst (All P) (sym (rows_next w h f)) (All-append P (by_rows w h f) (row_values w f h) (rows_all P w h f (λ x y l k. each x y l (omega arith))) (row_all P w h f (λ x l. each x h l (omega arith)))))
+    subst (λ n. All P (listed_by_rows w n f)) (sym next)
+    (subst (All P) (sym (rows_next w h f)) (All-append P (listed_by_rows w h f) (row_values w f h) (rows_all P w h f (λ x y l k. each x y l (omega arith))) (row_all P w h f (λ x l. each x h l (omega arith)))))
 
 flat_all : {A B : Type 0} (P : A → Type 0) (Q : B → Type 0) (f : A → List B) → ((a : A) → P a → All Q (f a)) → (xs : List A) → All P xs → All Q (flat_map f xs)
 flat_all P Q f each [] all = All-nil Q
@@ -40,32 +40,32 @@ around_within reach m c is =
     rows_all (IsWithinReach (m + reach)) (2 * reach + 1) (2 * reach + 1) (near c reach)
     (λ x y l k. record { across = near_within reach m c.x x is.across l; down = near_within reach m c.y y is.down k })
 
-twice_within : (m : ℕ) (v : Vector) → IsWithinReach m v → IsWithinReach (2 * m) (twice v)
+pub twice_within : (m : ℕ) (v : Vector) → IsWithinReach m v → IsWithinReach (2 * m) (twice v)
 twice_within m v is = record { across = omega (arith, ints, is.across); down = omega (arith, ints, is.down) }
 
 -- a vector of a field, or that of no motion
-vector_within : (m i j : ℕ) (f : Vectors) → All (IsWithinReach m) f.vectors → IsWithinReach m (vector_at f i j)
+pub vector_within : (m i j : ℕ) (f : Vectors) → All (IsWithinReach m) f.vectors → IsWithinReach m (field_vector f i j)
 vector_within m i j f all = elim (cases_lt (j * (4 * f.across) + i) (length f.vectors)) [
   | inl inside ↦ all (j * (4 * f.across) + i) no_motion inside
   | inr past ↦ rw (get_or_past f.vectors (j * (4 * f.across) + i) no_motion past) (record { across = omega arith; down = omega arith })
 ]
 
 where_within : (m i j : ℕ) (is_block : Bool) (f : Vectors) → All (IsWithinReach m) f.vectors → All (IsWithinReach (2 * m)) (centre_if is_block f i j)
-where_within m i j true f all = All-cons (IsWithinReach (2 * m)) (twice (vector_at f i j)) [] (twice_within m (vector_at f i j) (vector_within m i j f all)) (All-nil (IsWithinReach (2 * m)))
+where_within m i j true f all = All-cons (IsWithinReach (2 * m)) (twice (field_vector f i j)) [] (twice_within m (field_vector f i j) (vector_within m i j f all)) (All-nil (IsWithinReach (2 * m)))
 where_within m i j false f all = All-nil (IsWithinReach (2 * m))
 
-centres_within : (m i j : ℕ) (f : Vectors) → All (IsWithinReach m) f.vectors → All (IsWithinReach (2 * m)) (centres f i j)
+pub centres_within : (m i j : ℕ) (f : Vectors) → All (IsWithinReach m) f.vectors → All (IsWithinReach (2 * m)) (centres f i j)
 centres_within m i j f all =
     let P = IsWithinReach (2 * m) in
     let left = centre_if (nat_lt 0 i) f (i - 1) j in
     let right = centre_if (nat_lt (i + 1) (4 * f.across)) f (i + 1) j in
     let above = centre_if (nat_lt 0 j) f i (j - 1) in
     let below = centre_if (nat_lt (j + 1) (4 * f.down)) f i (j + 1) in
-    let here = twice (vector_at f i j) in
+    let here = twice (field_vector f i j) in
     All-append P (((here ∷ left) ++ right) ++ above) below
     (All-append P ((here ∷ left) ++ right) above
     (All-append P (here ∷ left) right
-    (All-cons P here left (twice_within m (vector_at f i j) (vector_within m i j f all)) (where_within m (i - 1) j (nat_lt 0 i) f all))
+    (All-cons P here left (twice_within m (field_vector f i j) (vector_within m i j f all)) (where_within m (i - 1) j (nat_lt 0 i) f all))
     (where_within m (i + 1) j (nat_lt (i + 1) (4 * f.across)) f all))
     (where_within m i (j - 1) (nat_lt 0 j) f all))
     (where_within m i (j + 1) (nat_lt (j + 1) (4 * f.down)) f all)
@@ -74,9 +74,9 @@ centres_within m i j f all =
 pub later_within : (m i j : ℕ) (f : Vectors) → All (IsWithinReach m) f.vectors → All (IsWithinReach (2 * m + 1)) (finer_candidates (Some f) i j) × All (IsWithinReach (2 * m + 1)) (sub_candidates (Some f) i j)
 later_within m i j f all = (
   flat_all (IsWithinReach (2 * m)) (IsWithinReach (2 * m + 1)) (λ c. around c 1) (λ c is. around_within 1 (2 * m) c is) (centres f i j) (centres_within m i j f all),
-  All-cons (IsWithinReach (2 * m + 1)) (twice (vector_at f i j)) (around (twice (vector_at f i j)) 1)
-      (let is = twice_within m (vector_at f i j) (vector_within m i j f all) in record { across = omega (arith, is.across); down = omega (arith, is.down) })
-      (around_within 1 (2 * m) (twice (vector_at f i j)) (twice_within m (vector_at f i j) (vector_within m i j f all))),
+  All-cons (IsWithinReach (2 * m + 1)) (twice (field_vector f i j)) (around (twice (field_vector f i j)) 1)
+      (let is = twice_within m (field_vector f i j) (vector_within m i j f all) in record { across = omega (arith, is.across); down = omega (arith, is.down) })
+      (around_within 1 (2 * m) (twice (field_vector f i j)) (twice_within m (field_vector f i j) (vector_within m i j f all))),
 )
 
 pub weaker : (a b : ℕ) (xs : List Vector) → a ≤ b → All (IsWithinReach a) xs → All (IsWithinReach b) xs

@@ -6,7 +6,7 @@ use Rattle.dirac_common.specs.declared.limits.TheConstants.{MOST_SUPERBLOCKS}
 use Rattle.dirac_common.specs.declared.formats.Vector.{Vector}
 use Rattle.dirac_search.specs.declared.stage.Stage.{Stage}
 use Rattle.dirac_search.specs.declared.stage.Stage.TheVariants as stage
-use Rattle.dirac_search.specs.ByRows.{by_rows}
+use Rattle.dirac_search.specs.ByRows.{listed_by_rows}
 
 abbrev pub vector : ℤ → ℤ → Vector
 vector x y = record { x = x; y = y }
@@ -25,7 +25,7 @@ near c reach x y = vector ((c.x +ℤ pos x) -ℤ pos reach) ((c.y +ℤ pos y) -�
 
 -- the vectors at most `reach` from a centre in each direction, by rows
 abbrev pub around : Vector → ℕ → List Vector
-around c reach = by_rows (2 * reach + 1) (2 * reach + 1) (near c reach)
+around c reach = listed_by_rows (2 * reach + 1) (2 * reach + 1) (near c reach)
 
 -- a vector for each block of a picture, by rows; a superblock has four by four blocks
 pub record Vectors : Type 0 where
@@ -39,17 +39,17 @@ HasAllBlocks across down vectors =
     (length vectors ≡ 4 * across * (4 * down)) × (across ≤ MOST_SUPERBLOCKS) × (down ≤ MOST_SUPERBLOCKS)
 
 -- the vector of block i of row j
-abbrev pub vector_at : Vectors → ℕ → ℕ → Vector
-vector_at f i j = slice_index_or f.vectors (j * (4 * f.across) + i) no_motion
+abbrev pub field_vector : Vectors → ℕ → ℕ → Vector
+field_vector f i j = slice_index_or f.vectors (j * (4 * f.across) + i) no_motion
 
 -- twice the vector of block i of row j, where there is such a block
 abbrev pub centre_if : Bool → Vectors → ℕ → ℕ → List Vector
-centre_if is_block f i j = if is_block then twice (vector_at f i j) ∷ [] else []
+centre_if is_block f i j = if is_block then twice (field_vector f i j) ∷ [] else []
 
 -- twice the vectors of a block and of those left of it, right of it, above and below
 abbrev pub centres : Vectors → ℕ → ℕ → List Vector
 centres f i j =
-    (((twice (vector_at f i j) ∷ centre_if (nat_lt 0 i) f (i - 1) j)
+    (((twice (field_vector f i j) ∷ centre_if (nat_lt 0 i) f (i - 1) j)
     ++ centre_if (nat_lt (i + 1) (4 * f.across)) f (i + 1) j)
     ++ centre_if (nat_lt 0 j) f i (j - 1))
     ++ centre_if (nat_lt (j + 1) (4 * f.down)) f i (j + 1)
@@ -62,7 +62,7 @@ finer_candidates (Some f) i j = flat_map (λ c. around c 1) (centres f i j)
 -- twice the block's former vector, and those round it
 abbrev pub sub_candidates : Option Vectors → ℕ → ℕ → List Vector
 sub_candidates None i j = []
-sub_candidates (Some f) i j = twice (vector_at f i j) ∷ around (twice (vector_at f i j)) 1
+sub_candidates (Some f) i j = twice (field_vector f i j) ∷ around (twice (field_vector f i j)) 1
 
 -- the candidates behind the vector of no motion
 abbrev pub further_candidates : Stage → ℕ → Option Vectors → ℕ → ℕ → List Vector

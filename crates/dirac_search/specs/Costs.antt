@@ -1,6 +1,6 @@
 -- What a vector costs a block at a stage of the search.
 use Rattle.std.specs.Prelude.{◌≡◌, ℕ, ℤ, pos, ◌+◌, ◌*◌, ◌/◌, ◌^◌, ◌<◌, ◌≤◌, ◌==◌, ◌+ℤ◌, ◌-ℤ◌, unsigned_abs}
-use Rattle.std.specs.Prelude.{if◌then◌else◌, length, slice_index_or}
+use Rattle.std.specs.Prelude.{if◌then◌else◌, length, slice_index_or, Option, IfSome, IfNone}
 use Rattle.dirac_common.specs.Table.{Table, clamped_at}
 use Rattle.dirac_common.specs.declared.formats.Vector.{Vector}
 use Rattle.dirac_upconvert.specs.SubSamples.{sub_sample}
@@ -40,10 +40,10 @@ abbrev pub whole_sample : Table → Vector → ℕ → ℕ → ℤ
 whole_sample t v x y = clamped_at t (pos x +ℤ v.x) (pos y +ℤ v.y)
 
 -- the sample of the reference to which a vector leads at a stage
-abbrev pub moved_sample : Searched → Stage → Vector → ℕ → ℕ → ℤ
-moved_sample g (stage.Coarse l) v x y = whole_sample (slice_index_or g.reference l no_plane) v x y
-moved_sample g (stage.Finer l) v x y = whole_sample (slice_index_or g.reference l no_plane) v x y
-moved_sample g (stage.Sub q) v x y = sub_sample g.up q (pos (2 ^ q * x) +ℤ v.x) (pos (2 ^ q * y) +ℤ v.y)
+abbrev pub sample_at_stage : Searched → Stage → Vector → ℕ → ℕ → ℤ
+sample_at_stage g (stage.Coarse l) v x y = whole_sample (slice_index_or g.reference l no_plane) v x y
+sample_at_stage g (stage.Finer l) v x y = whole_sample (slice_index_or g.reference l no_plane) v x y
+sample_at_stage g (stage.Sub q) v x y = sub_sample g.up q (pos (2 ^ q * x) +ℤ v.x) (pos (2 ^ q * y) +ℤ v.y)
 
 -- the sample of the source at a stage, its position clamped
 abbrev pub source_sample : Searched → Stage → ℕ → ℕ → ℤ
@@ -51,7 +51,7 @@ source_sample g stage x y = sample_at (slice_index_or g.source (level_of_stage s
 
 -- how far source and moved reference are apart in column x of row y
 unfoldable pub difference : Searched → Stage → Vector → ℕ → ℕ → ℕ
-difference g stage v x y = unsigned_abs (source_sample g stage x y -ℤ moved_sample g stage v x y)
+difference g stage v x y = unsigned_abs (source_sample g stage x y -ℤ sample_at_stage g stage v x y)
 
 -- the sum of absolute differences over a window
 abbrev pub distortion : Searched → Stage → Window → Vector → ℕ
@@ -66,12 +66,17 @@ abbrev pub cost_of : Searched → ℕ → Stage → ℕ → ℕ → Vector → �
 cost_of g bias stage i j v = window_cost g bias stage (window_of g stage i j) v
 
 -- a number is a cost that is below a limit
-abbrev pub IsBelow : ℕ → ℕ → ℕ → Type 0
-IsBelow limit cost n = (n ≡ cost) × (n < limit)
+abbrev pub IsCostBelow : ℕ → ℕ → ℕ → Type 0
+IsCostBelow limit cost n = (n ≡ cost) × (n < limit)
 
 -- a cost reaches a limit, which then is one that costs can reach
 abbrev pub Reaches : ℕ → ℕ → Type 0
 Reaches limit cost = (limit ≤ cost) × (limit < 2 ^ 25)
+
+-- what is answered of a cost, where its summing stops at a limit
+pub record StopsAt (limit cost : ℕ) (answer : Option ℕ) : Type 0 where
+  pub below : IfSome answer (IsCostBelow limit cost)
+  pub above : IfNone answer (Reaches limit cost)
 
 -- both pyramids have the level of a stage
 abbrev pub HasLevel : Searched → Stage → Type 0

@@ -6,7 +6,7 @@ use Rattle.dirac_common.specs.declared.formats.Vector.{Vector}
 use Rattle.dirac_types.specs.declared.settings.Settings.{Settings}
 use Rattle.dirac_search.specs.declared.stage.Stage.{Stage}
 use Rattle.dirac_search.specs.declared.stage.Stage.TheVariants as stage
-use Rattle.dirac_search.specs.ByRows.{by_rows}
+use Rattle.dirac_search.specs.ByRows.{listed_by_rows}
 use Rattle.dirac_search.specs.Candidates.{IsWithinReach, Vectors, no_motion}
 use Rattle.dirac_costs.specs.Least.{first_least}
 use Rattle.dirac_search.specs.Costs.{cost_of}
@@ -19,15 +19,16 @@ best_of g s stage before i j =
     first_least (cost_of g s.bias stage i j) no_motion (kept_candidates g s stage before i j)
 
 -- the best vectors of the four block rows of a row of superblocks
-abbrev pub superblock_row : Searched → Settings → Stage → Option Vectors → ℕ → List Vector
-superblock_row g s stage before row = by_rows (4 * g.across) 4 (λ i j. best_of g s stage before i (4 * row + j))
+abbrev pub best_superblock_row : Searched → Settings → Stage → Option Vectors → ℕ → List Vector
+best_superblock_row g s stage before row =
+    listed_by_rows (4 * g.across) 4 (λ i j. best_of g s stage before i (4 * row + j))
 
 -- the best vectors of all blocks at a stage
 unfoldable pub stage_field : Searched → Settings → Stage → Option Vectors → Vectors
 stage_field g s stage before = record {
   across = g.across;
   down = g.down;
-  vectors = by_rows (4 * g.across) (4 * g.down) (best_of g s stage before);
+  vectors = listed_by_rows (4 * g.across) (4 * g.down) (best_of g s stage before);
 }
 
 -- the vectors after the coarse stage and k finer ones

@@ -1,5 +1,5 @@
 -- Samples that are compared in bytes.
-use Rattle.std.specs.Prelude.{◌≡◌, ℕ, ℤ, pos, ◌+◌, ◌-◌, ◌*◌, ◌/◌, ◌%◌, ◌^◌, ◌<◌, ◌≤◌, ◌+ℤ◌, ◌-ℤ◌, ◌≤ℤ◌, List}
+use Rattle.std.specs.Prelude.{◌≡◌, ℕ, ℤ, pos, ◌+◌, ◌-◌, ◌*◌, ◌/◌, ◌%◌, ◌^◌, ◌<◌, ◌≤◌, ◌+ℤ◌, ◌-ℤ◌, List}
 use Rattle.std.specs.Prelude.{unsigned_abs, length, slice_index_or, Option, Some, None}
 use Rattle.dirac_common.specs.Table.{Table, table_at}
 use Rattle.dirac_upconvert.specs.SubSamples.{Up, place_at, rest_at}
@@ -19,7 +19,7 @@ abbrev pub half_line : Up → ℕ → ℕ → ℤ
 half_line up k n = table_at up.table (2 * k + n % 2) (n / 2)
 
 -- these lines, one behind another, each without the sample of the last column
-pub record AreHalves (up : Up) (values : List ℤ) : Type 0 where
+pub record AreHalfSampleLines (up : Up) (values : List ℤ) : Type 0 where
   pub some_across : 1 ≤ up.width
   pub some_down : 1 ≤ up.height
   pub len : length values ≡ 2 * (2 * up.height - 1) * (up.width - 1)
@@ -29,7 +29,7 @@ pub record AreHalves (up : Up) (values : List ℤ) : Type 0 where
 -- the samples of a source and the lines of an upconverted reference
 pub record AreBytes (t : Table) (up : Up) (b : Bytes) : Type 0 where
   pub source : b.source.items ≡ t.values
-  pub halves : AreHalves up b.halves.items
+  pub halves : AreHalfSampleLines up b.halves.items
 
 -- those of a search
 abbrev pub AreBytesOf : Searched → Bytes → Type 0
@@ -75,34 +75,26 @@ strided_means a left b c step r = sum_below (apart_from_mean a (row_at left r) b
 
 -- the place at or before a position that is counted in halves or quarters of a sample, and how far it lies behind
 pub record HasSpot (precision : ℕ) (position : ℤ) (s : Spot) : Type 0 where
-  pub place : s.place ≡ place_at position (precision - 1)
-  pub rest : s.rest ≡ rest_at position (precision - 1)
+  pub place : place_at position (precision - 1) ≡ pos s.place
+  pub rest : rest_at position (precision - 1) ≡ pos s.rest
+  pub near : s.rest ≤ 1
 
 -- the same of the position to which a component leads from a place of a plane
 abbrev pub IsSpot : ℕ → ℕ → ℤ → Spot → Type 0
 IsSpot precision place component s = HasSpot precision (pos (2 ^ precision * place) +ℤ component) s
 
--- so many samples, a whole sample apart from a spot on, lie before this end
-abbrev pub IsBefore : Spot → ℕ → ℕ → Type 0
-IsBefore s count end = (pos 0 ≤ℤ s.place) × (((s.place +ℤ pos (2 * count)) +ℤ s.rest) ≤ℤ pos end)
-
--- a spot lies at most one half behind its place
-abbrev pub IsNear : Spot → Type 0
-IsNear s = (pos 0 ≤ℤ s.rest) × (s.rest ≤ℤ pos 1)
+-- so many samples, a whole sample apart from it on, lie before this end
+pub record IsSpotBefore (precision place : ℕ) (component : ℤ) (count end : ℕ) (s : Spot) : Type 0 where
+  pub spot : IsSpot precision place component s
+  pub inside : s.place + 2 * count + s.rest ≤ end
 
 -- a window of eight columns that a source has, and spots of it of which the lines have all samples
-pub record IsHeld (source : Table) (up : Up) (precision : ℕ) (x y : Spot) (t : Tried) : Type 0 where
+pub record HasAllSamplesOfWindow (source : Table) (up : Up) (precision : ℕ) (x y : Spot) (t : Tried) : Type 0 where
   pub columns : t.window.columns ≡ 8
   pub source_right : t.window.x + 8 ≤ source.width
   pub source_bottom : t.window.y + t.window.rows ≤ source.height
-  pub spot_x : IsSpot precision t.window.x t.v.x x
-  pub spot_y : IsSpot precision t.window.y t.v.y y
-  pub small_x : unsigned_abs x.place ≤ 2 ^ 25
-  pub small_y : unsigned_abs y.place ≤ 2 ^ 25
-  pub near_x : IsNear x
-  pub near_y : IsNear y
-  pub right : IsBefore x 8 (2 * up.width - 1)
-  pub bottom : IsBefore y t.window.rows (2 * up.height)
+  pub across : IsSpotBefore precision t.window.x t.v.x 8 (2 * up.width - 1) x
+  pub down : IsSpotBefore precision t.window.y t.v.y t.window.rows (2 * up.height) y
 
 -- where column x of row y of the samples and half samples stands among lines of so many columns
 abbrev pub start_of : ℕ → ℕ → ℕ → ℕ

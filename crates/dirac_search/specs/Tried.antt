@@ -1,5 +1,5 @@
 -- A vector that is tried for a window, and the sums that it comes to.
-use Rattle.std.specs.Prelude.{ℕ, pos, ◌+◌, ◌^◌, ◌≤◌, ◌+ℤ◌, ◌≤ℤ◌}
+use Rattle.std.specs.Prelude.{◌≡◌, ℕ, pos, ◌+◌, ◌%◌, ◌^◌, ◌≤◌, ◌+ℤ◌, ◌≤ℤ◌}
 use Rattle.dirac_common.specs.Table.{Table}
 use Rattle.dirac_upconvert.specs.SubSamples.{Up}
 use Rattle.dirac_search.specs.declared.stage.Stage.{Stage}
@@ -20,6 +20,14 @@ pub record HasColumns (source reference : Table) (t : Tried) : Type 0 where
   pub x : t.window.x + t.window.columns ≤ source.width
   pub left : pos 0 ≤ℤ (pos t.window.x +ℤ t.v.x)
   pub right : ((pos t.window.x +ℤ t.v.x) +ℤ pos t.window.columns) ≤ℤ pos reference.width
+
+-- both have all rows, too, and these are fours of rows of eight samples
+pub record HasFours (source reference : Table) (t : Tried) : Type 0 where
+  pub eight_columns : t.window.columns ≡ 8
+  pub fours_of_rows : t.window.rows % 4 ≡ 0
+  pub y : t.window.y + t.window.rows ≤ source.height
+  pub top : pos 0 ≤ℤ (pos t.window.y +ℤ t.v.y)
+  pub bottom : ((pos t.window.y +ℤ t.v.y) +ℤ pos t.window.rows) ≤ℤ pos reference.height
 
 -- all that it costs on a level, where it leads to whole samples
 abbrev pub whole_sum : Table → Table → Tried → ℕ

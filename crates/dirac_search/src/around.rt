@@ -55,7 +55,7 @@ pub fn push_around(list: &mut CandidateList, centre: Vector, reach: u8) -> Resul
 
 /// Appends the vectors at most 1 from these centres, one centre after another.
 pub fn push_round_all(list: &mut CandidateList, centres: &CandidateList) -> Result<(), NoMemory>
-    requires centres { All (IsWithinReach (2 ^ 23)) centres.now }
+    requires { All (IsWithinReach (2 ^ 23)) centres.now }
     ensures { IfOk result (λ _. list.new ≡ list.old ++ flat_map (λ c. around c 1) centres.now) }
 {
     for k in 0..centres.len() {

@@ -1,15 +1,15 @@
 ghost use Rattle.std.specs.Prelude.{◌≡◌, ℕ, pos, negsuc, ◌+◌, ◌*◌, ◌^◌, ◌<◌, ◌≤◌, ◌+ℤ◌, ◌-ℤ◌, ◌≤ℤ◌, unsigned_abs};
-ghost use Rattle.std.specs.Prelude.{length, IfSome, IfNone};
+ghost use Rattle.std.specs.Prelude.{length};
 ghost use Rattle.std.specs.Int.{int_shr};
 ghost use Rattle.dirac_costs.specs.Sums.{sum_below};
 ghost use Rattle.dirac_pyramid.specs.Pyramid.{mean_of_four};
-ghost use Rattle.dirac_search.specs.Costs.{IsBelow, Reaches};
+ghost use Rattle.dirac_search.specs.Costs.{StopsAt};
 ghost use Rattle.dirac_search.specs.InBytes.{AreInside, apart_from_mean, corners_at, mean_behind, row_at, strided_rows};
 ghost use Rattle.dirac_search.specs.InBytes.{strided_means};
 ghost use Rattle.dirac_search.specs.Rows.{apart_at};
 ghost use Rattle.dirac_search.specs.Tried.{IsTried};
 
-use crate::tried::Tried;
+use crate::tried::{Tried, if_below};
 
 /// A sample of eight bits, raised so that it isn't below 0.
 #[inline(always)]
@@ -204,10 +204,8 @@ pub fn rows_below(a: &[i8], left: Strided, b: &[i8], right: Strided, tried: Trie
     requires tried { IsTried tried }
     requires left { AreInside left tried.window.rows (length a.now) }
     requires right { AreInside right tried.window.rows (length b.now) }
-    ensures below { IfSome result (IsBelow tried.limit (tried.first
-        + sum_below (strided_rows a.now left b.now right) tried.window.rows)) }
-    ensures above { IfNone result (Reaches tried.limit (tried.first
-        + sum_below (strided_rows a.now left b.now right) tried.window.rows)) }
+    ensures { StopsAt tried.limit (tried.first + sum_below (strided_rows a.now left b.now right) tried.window.rows)
+        result }
 {
     let mut sum = tried.first;
     'rows: for k in 0..tried.window.rows {
@@ -216,7 +214,7 @@ pub fn rows_below(a: &[i8], left: Strided, b: &[i8], right: Strided, tried: Trie
         }
         sum += eight_apart(a, row_start(left, k), b, row_start(right, k));
     }
-    if sum < tried.limit { Some(sum) } else { None }
+    if_below(sum, tried.limit)
 }
 
 /// What is summed already and the absolute differences of rows of eight samples and of the means of those at four
@@ -236,10 +234,8 @@ pub fn means_below(
         (length b.now) }
     requires corners_right { AreInside (record { first = corners.right + corners.under; step = step })
         tried.window.rows (length b.now) }
-    ensures below { IfSome result (IsBelow tried.limit (tried.first
-        + sum_below (strided_means a.now left b.now corners step) tried.window.rows)) }
-    ensures above { IfNone result (Reaches tried.limit (tried.first
-        + sum_below (strided_means a.now left b.now corners step) tried.window.rows)) }
+    ensures { StopsAt tried.limit (tried.first + sum_below (strided_means a.now left b.now corners step) tried.window.rows)
+        result }
 {
     let mut sum = tried.first;
     'rows: for k in 0..tried.window.rows {
@@ -248,5 +244,5 @@ pub fn means_below(
         }
         sum += eight_from_means(a, row_start(left, k), b, row_corners(corners, step, k));
     }
-    if sum < tried.limit { Some(sum) } else { None }
+    if_below(sum, tried.limit)
 }

@@ -1,17 +1,17 @@
-ghost use Rattle.std.specs.Prelude.{◌≡◌, ℕ, pos, ◌+◌, ◌-◌, ◌*◌, ◌<◌, ◌≤◌, length, slice_index_or, IsTrue, IfOk, IfSome};
+ghost use Rattle.std.specs.Prelude.{◌≡◌, ℕ, pos, ◌+◌, ◌-◌, ◌*◌, ◌<◌, ◌≤◌, length, slice_index_or, IsTrue, IfOk};
 ghost use Rattle.std.specs.List.{All};
 ghost use Rattle.dirac_upconvert.specs.HalfSamples.{IsSample};
 ghost use Rattle.dirac_upconvert.specs.SubSamples.{IsUp};
-ghost use Rattle.dirac_search.specs.Given.{given};
-ghost use Rattle.dirac_search.specs.InBytes.{AreGiven, AreHalves, half_line};
+ghost use Rattle.dirac_search.specs.Given.{searched_of};
+ghost use Rattle.dirac_search.specs.InBytes.{AreGiven, AreHalfSampleLines, half_line};
 
 use crate::stage::Search;
-use dirac_common::{NoMemory, Plane};
+use dirac_common::NoMemory;
 use dirac_upconvert::UpPlane;
 use std::alloc::Global;
 
 /// Samples that are compared in bytes: those of the source, and those of the reference with its half samples.
-#[derive(Debug, Drop)]
+#[derive(Drop)]
 pub struct Bytes {
     /// By rows.
     pub source: Vec<i8>,
@@ -61,17 +61,14 @@ fn narrow(samples: &[i16], out: &mut [i8])
     }
 }
 
-/// A plane's samples in eight bits, where all of them are samples of eight bits.
-fn source_of(alloc: Global, plane: &Plane) -> Result<Option<Vec<i8>>, NoMemory>
-    ensures { IfOk result (λ source. IfSome source (λ v. v.items ≡ plane.now.values)) }
+/// These samples in eight bits.
+fn source_of(alloc: Global, samples: &[i16]) -> Result<Vec<i8>, NoMemory>
+    requires { All IsSample samples.now }
+    ensures { IfOk result (λ v. v.items ≡ samples.now) }
 {
-    let samples = plane.values();
-    if !are_samples(samples) {
-        return Ok(None);
-    }
     let mut source = vec![in alloc; 0i8; samples.len()]?;
     narrow(samples, source.as_mut_slice());
-    Ok(Some(source))
+    Ok(source)
 }
 
 /// Line `n` of the samples and half samples: of row `n / 2` the even columns, or for an odd number the odd ones. `room`
@@ -104,7 +101,7 @@ fn put_half_lines(up: &UpPlane, room: &mut [i16], out: &mut [i8])
 
 /// The samples and half samples of a reference but for the last column.
 fn halves_of(alloc: Global, up: &UpPlane) -> Result<Vec<i8>, NoMemory>
-    ensures { IfOk result (λ v. AreHalves up.now v.items) }
+    ensures { IfOk result (λ v. AreHalfSampleLines up.now v.items) }
 {
     let columns = up.width() as usize - 1;
     let lines = 2 * (2 * up.height() - 1);
@@ -118,18 +115,15 @@ impl Bytes {
     /// What a search with vectors of this precision compares in bytes: none where it ends at whole samples, or where a
     /// sample of the source hasn't eight bits.
     pub fn of(alloc: Global, search: &Search<'_>, precision: u32) -> Result<Option<Bytes>, NoMemory>
-        requires { 1 ≤ length (given search.now).source }
-        ensures { IfOk result (AreGiven (given search.now)) }
+        requires { 1 ≤ length (searched_of search.now).source }
+        ensures { IfOk result (AreGiven (searched_of search.now)) }
     {
-        if precision == 0 {
+        let samples = search.source.level(0).values();
+        if precision == 0 || !are_samples(samples) {
             return Ok(None);
         }
-        match source_of(alloc, search.source.level(0))? {
-            None => Ok(None),
-            Some(source) => {
-                let halves = halves_of(alloc, search.up)?;
-                Ok(Some(Bytes { source, halves }))
-            }
-        }
+        let source = source_of(alloc, samples)?;
+        let halves = halves_of(alloc, search.up)?;
+        Ok(Some(Bytes { source, halves }))
     }
 }

@@ -8,7 +8,7 @@ use std::marker::Model;
 /// Candidate vectors in the order in which they are tried.
 ///
 /// Contracts see it as a list.
-#[derive(Debug, Drop)]
+#[derive(Drop)]
 pub struct CandidateList {
     list: Vec<Vector>,
 }

@@ -1,11 +1,11 @@
 ghost use Rattle.std.specs.Prelude.{◌≡◌, ◌+◌, ◌*◌, ◌<◌, ◌≤◌, length};
-ghost use Rattle.dirac_search.specs.Candidates.{Vectors, vector_at};
+ghost use Rattle.dirac_search.specs.Candidates.{Vectors, field_vector};
 
 use dirac_common::{MOST_SUPERBLOCKS, Vector};
 use std::marker::Model;
 
 /// A vector for each block of a picture, by rows; `across` and `down` count superblocks, of four by four blocks each.
-#[derive(Debug, Drop)]
+#[derive(Drop)]
 pub struct Field {
     across: u32,
     down: u32,
@@ -56,7 +56,7 @@ impl Field {
     pub fn at(&self, i: u32, j: u32) -> Vector
         requires column { i < 4 * self.now.across }
         requires row { j < 4 * self.now.down }
-        ensures { result ≡ vector_at self.now i j }
+        ensures { result ≡ field_vector self.now i j }
     {
         self.vectors[j as usize * (4 * self.across as usize) + i as usize]
     }

@@ -1,12 +1,12 @@
 ghost use Rattle.std.specs.Prelude.{◌≡◌, ◌*◌, ◌^◌, ◌<◌, ◌≤◌, [], IfOk};
 ghost use Rattle.std.specs.List.{All, filter};
-ghost use Rattle.dirac_inside.specs.Inside.{times};
+ghost use Rattle.dirac_inside.specs.Inside.{vector_times};
 ghost use Rattle.dirac_inside.specs.Ranges.{AreBlocks, IsRange, is_in};
 ghost use Rattle.dirac_search.specs.Candidates.{IsWithinReach};
 ghost use Rattle.dirac_search.specs.Costs.{level_of_stage};
 ghost use Rattle.dirac_search.specs.Fields.{IsSearch, IsStage};
-ghost use Rattle.dirac_search.specs.Given.{given};
-ghost use Rattle.dirac_search.specs.Kept.{blocks_of as the_blocks, precision_of as the_precision, stage_keeps};
+ghost use Rattle.dirac_search.specs.Given.{searched_of};
+ghost use Rattle.dirac_search.specs.Kept.{searched_blocks, precision_of as the_precision, stage_keeps};
 
 use crate::candidate_list::CandidateList;
 use crate::stage::{Search, Stage, Staged};
@@ -17,8 +17,8 @@ use dirac_types::{Settings, step_across, step_down};
 
 /// The blocks of the picture that is searched, and its planes, which are as large as those of the reference.
 fn blocks_of(search: &Search<'_>, settings: &Settings) -> PictureBlocks
-    requires { IsSearch (given search.now) settings.now }
-    ensures value { result ≡ the_blocks (given search.now) settings.now }
+    requires { IsSearch (searched_of search.now) settings.now }
+    ensures value { result ≡ searched_blocks (searched_of search.now) settings.now }
     ensures blocks { AreBlocks result }
 {
     PictureBlocks {
@@ -46,13 +46,7 @@ fn samples_of(stage: Stage) -> u32
     ensures value { result ≡ 2 ^ level_of_stage stage }
     ensures at_most_16 { result ≤ 16 }
 {
-    match level_of(stage) {
-        0 => 1,
-        1 => 2,
-        2 => 4,
-        3 => 8,
-        _ => 16,
-    }
+    1 << u32::from(level_of(stage))
 }
 
 /// Appends those of these vectors that lie in a range, where each counts as so many times itself.
@@ -66,7 +60,7 @@ fn push_inside(
     requires at_most_16 { count ≤ 16 }
     requires within { All (IsWithinReach (2 ^ 24)) list.now }
     requires empty { kept.old ≡ [] }
-    ensures { IfOk result (λ _. kept.new ≡ filter (λ v. is_in range (times count v)) list.now) }
+    ensures { IfOk result (λ _. kept.new ≡ filter (λ v. is_in range (vector_times count v)) list.now) }
 {
     for k in 0..list.len() {
         let vector = list.at(k);
@@ -85,13 +79,13 @@ pub(crate) fn push_kept(
     list: &CandidateList,
     kept: &mut CandidateList,
 ) -> Result<(), NoMemory>
-    requires search { IsSearch (given staged.now.search.now) staged.now.settings.now }
+    requires search { IsSearch (searched_of staged.now.search.now) staged.now.settings.now }
     requires stage { IsStage staged.now.settings.now staged.now.stage }
     requires column { i < 4 * staged.now.search.now.across }
     requires row { j < 4 * staged.now.search.now.down }
     requires within { All (IsWithinReach (2 ^ 24)) list.now }
     requires empty { kept.old ≡ [] }
-    ensures value { IfOk result (λ _. kept.new ≡ filter (stage_keeps (given staged.now.search.now)
+    ensures value { IfOk result (λ _. kept.new ≡ filter (stage_keeps (searched_of staged.now.search.now)
         staged.now.settings.now staged.now.stage i j) list.now) }
     ensures within { IfOk result (λ _. All (IsWithinReach (2 ^ 24)) kept.new) }
 {

@@ -1,12 +1,11 @@
-ghost use Rattle.std.specs.Prelude.{◌≡◌, ◌*◌, ◌^◌, ◌<◌, ◌≤◌, IsTrue, IfOk, IfSome, IfNone};
+ghost use Rattle.std.specs.Prelude.{◌≡◌, ◌*◌, ◌^◌, ◌<◌, ◌≤◌, IfOk, IfSome, IfNone};
 ghost use Rattle.std.specs.List.{All};
 ghost use Rattle.dirac_costs.specs.Least.{first_least};
 ghost use Rattle.dirac_search.specs.Candidates.{HasFormer, IsWithinReach, no_motion};
-ghost use Rattle.dirac_search.specs.Costs.{HasLevel, HasPrecision, IsBlockWindow, IsBelow, cost_of, window_cost};
+ghost use Rattle.dirac_search.specs.Costs.{IsCostBelow};
 ghost use Rattle.dirac_search.specs.Fields.{IsSearch, IsStage, best_of};
-ghost use Rattle.dirac_search.specs.Given.{given, lent};
-ghost use Rattle.dirac_search.specs.InBytes.{AreGiven};
-ghost use Rattle.dirac_search.specs.Staged.{best_at};
+ghost use Rattle.dirac_search.specs.Given.{searched_of, lent};
+ghost use Rattle.dirac_search.specs.Staged.{IsCompared, IsSearched, best_at, cost_at};
 
 use crate::candidate_list::CandidateList;
 use crate::field::Field;
@@ -19,14 +18,6 @@ use dirac_costs::Window;
 use dirac_types::Settings;
 use std::alloc::Global;
 
-/// Whether two vectors are the same.
-#[inline(always)]
-fn are_same(a: Vector, b: Vector) -> bool
-    ensures { IsTrue result → a ≡ b }
-{
-    a.x == b.x && a.y == b.y
-}
-
 /// What a vector costs a window, where that is less than what the best one so far costs.
 #[inline(always)]
 fn better_cost(
@@ -36,21 +27,14 @@ fn better_cost(
     found: Vector,
     least: u32,
 ) -> Option<u32>
-    requires levels { HasLevel (given staged.now.search.now) staged.now.stage }
-    requires precision { HasPrecision staged.now.stage }
-    requires at_most_255 { staged.now.settings.now.bias ≤ 255 }
-    requires bytes { AreGiven (given staged.now.search.now) (lent staged.now.bytes) }
-    requires window { IsBlockWindow window }
+    requires compared { IsCompared staged.now window }
     requires v { IsWithinReach (2 ^ 24) v }
-    requires least { least ≡ window_cost (given staged.now.search.now) staged.now.settings.now.bias staged.now.stage
-        window found }
-    ensures below { IfSome result (IsBelow least (window_cost (given staged.now.search.now) staged.now.settings.now.bias
-        staged.now.stage window v)) }
-    ensures above { IfNone result (least ≤ window_cost (given staged.now.search.now) staged.now.settings.now.bias
-        staged.now.stage window v) }
+    requires least { least ≡ cost_at staged.now window found }
+    ensures below { IfSome result (IsCostBelow least (cost_at staged.now window v)) }
+    ensures above { IfNone result (least ≤ cost_at staged.now window v) }
 {
     // Candidates come again, the best one too: its cost would be summed to the end.
-    if are_same(v, found) {
+    if v == found {
         return None;
     }
     cost_below(staged, window, v, least)
@@ -75,16 +59,10 @@ fn least_of(
     list: &CandidateList,
     price: u32,
 ) -> Vector
-    requires levels { HasLevel (given staged.now.search.now) staged.now.stage }
-    requires precision { HasPrecision staged.now.stage }
-    requires at_most_255 { staged.now.settings.now.bias ≤ 255 }
-    requires bytes { AreGiven (given staged.now.search.now) (lent staged.now.bytes) }
-    requires window { IsBlockWindow window }
+    requires compared { IsCompared staged.now window }
     requires list { All (IsWithinReach (2 ^ 24)) list.now }
-    requires price { price ≡ window_cost (given staged.now.search.now) staged.now.settings.now.bias staged.now.stage
-        window no_motion }
-    ensures { result ≡ first_least (window_cost (given staged.now.search.now) staged.now.settings.now.bias
-        staged.now.stage window) no_motion list.now }
+    requires price { price ≡ cost_at staged.now window no_motion }
+    ensures { result ≡ first_least (cost_at staged.now window) no_motion list.now }
 {
     let mut found = Vector { x: 0, y: 0 };
     let mut least = price;
@@ -101,82 +79,30 @@ fn least_of(
     found
 }
 
-/// The room that the search of a block takes: for candidates, for those that keep inside, and for their centres.
+/// The room that the search of a block takes: for candidates, and for their centres, then those that keep inside.
 #[derive(Drop)]
 pub struct Room {
     list: CandidateList,
-    kept: CandidateList,
-    centres: CandidateList,
+    spare: CandidateList,
 }
 
 /// Room that holds nothing yet.
 pub fn new_room(alloc: Global) -> Room {
     Room {
         list: CandidateList::new(alloc),
-        kept: CandidateList::new(alloc),
-        centres: CandidateList::new(alloc),
+        spare: CandidateList::new(alloc),
     }
-}
-
-/// The first of least cost of the candidates that may be taken for block `i` of row `j` at a stage; `price` is what the
-/// vector of no motion costs.
-fn best_in(
-    staged: &Staged<'_, '_, '_, '_>,
-    before: Option<&Field>,
-    i: u32,
-    j: u32,
-    room: &mut Room,
-    price: u32,
-) -> Result<Vector, NoMemory>
-    requires search { IsSearch (given staged.now.search.now) staged.now.settings.now }
-    requires stage { IsStage staged.now.settings.now staged.now.stage }
-    requires bytes { AreGiven (given staged.now.search.now) (lent staged.now.bytes) }
-    requires former { HasFormer staged.now.stage (lent before) i j }
-    requires column { i < 4 * staged.now.search.now.across }
-    requires row { j < 4 * staged.now.search.now.down }
-    requires price { price ≡ cost_of (given staged.now.search.now) staged.now.settings.now.bias staged.now.stage i j
-        no_motion }
-    ensures { IfOk result (λ v. v ≡ best_at staged.now (lent before.entry) i j) }
-{
-    let Staged {
-        search,
-        stage,
-        settings,
-        ..
-    } = *staged;
-    room.list.clear();
-    push_choice(
-        &mut room.list,
-        &mut room.centres,
-        stage,
-        settings,
-        before,
-        i,
-        j,
-    )?;
-    let window = window(search, stage, i, j);
-    if settings.alike == 0 {
-        return Ok(least_of(staged, window, &room.list, price));
-    }
-    room.kept.clear();
-    push_kept(staged, i, j, &room.list, &mut room.kept)?;
-    Ok(least_of(staged, window, &room.kept, price))
 }
 
 /// The first of least cost of the candidates that may be taken for block `i` of row `j` at a stage.
-pub(crate) fn best_or_still(
+pub(crate) fn best_in(
     staged: &Staged<'_, '_, '_, '_>,
     before: Option<&Field>,
     i: u32,
     j: u32,
     room: &mut Room,
 ) -> Result<Vector, NoMemory>
-    requires search { IsSearch (given staged.now.search.now) staged.now.settings.now }
-    requires stage { IsStage staged.now.settings.now staged.now.stage }
-    requires bytes { AreGiven (given staged.now.search.now) (lent staged.now.bytes) }
-    requires former { HasFormer staged.now.stage (lent before) i j }
-    requires column { i < 4 * staged.now.search.now.across }
-    requires row { j < 4 * staged.now.search.now.down }
+    requires { IsSearched staged.now (lent before) i j }
     ensures { IfOk result (λ v. v ≡ best_at staged.now (lent before.entry) i j) }
 {
     let Staged {
@@ -190,10 +116,18 @@ pub(crate) fn best_or_still(
     let price = whole_cost(staged, window, still);
     if price <= least_price_of_motion(settings.bias) {
         // No other vector costs less: its bits alone cost as much.
-        Ok(still)
-    } else {
-        best_in(staged, before, i, j, room, price)
+        return Ok(still);
     }
+    let Room { list, spare } = room;
+    list.clear();
+    let range = settings.range as u8;
+    push_choice(list, spare, stage, range, before, i, j)?;
+    if settings.alike == 0 {
+        return Ok(least_of(staged, window, list, price));
+    }
+    spare.clear();
+    push_kept(staged, i, j, list, spare)?;
+    Ok(least_of(staged, window, spare, price))
 }
 
 /// The first of least cost of the candidates that may be taken for block `i` of row `j` at a stage: of all, and where
@@ -208,12 +142,12 @@ pub fn best(
     i: u32,
     j: u32,
 ) -> Result<Vector, NoMemory>
-    requires search { IsSearch (given search.now) settings.now }
+    requires search { IsSearch (searched_of search.now) settings.now }
     requires stage { IsStage settings.now stage }
     requires former { HasFormer stage (lent before) i j }
     requires column { i < 4 * search.now.across }
     requires row { j < 4 * search.now.down }
-    ensures { IfOk result (λ v. v ≡ best_of (given search.now) settings.now stage (lent before.entry) i j) }
+    ensures { IfOk result (λ v. v ≡ best_of (searched_of search.now) settings.now stage (lent before.entry) i j) }
 {
     let mut room = new_room(alloc);
     let staged = Staged {
@@ -222,5 +156,5 @@ pub fn best(
         settings,
         bytes: None,
     };
-    best_or_still(&staged, before, i, j, &mut room)
+    best_in(&staged, before, i, j, &mut room)
 }

@@ -5,7 +5,7 @@ use dirac_types::Settings;
 use dirac_upconvert::UpPlane;
 
 /// A stage of the search.
-#[derive(Clone, Copy, Debug, PartialEq, Eq)]
+#[derive(Clone, Copy)]
 pub enum Stage {
     /// All vectors in a range, in whole samples of this level: the top one.
     Coarse(u8),

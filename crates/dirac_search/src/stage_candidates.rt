@@ -1,7 +1,8 @@
 ghost use Rattle.std.specs.Prelude.{◌≡◌, pos, ◌+◌, ◌*◌, ◌^◌, ◌<◌, ◌≤◌, ◌*ℤ◌, unsigned_abs, true, [], ◌++◌, Some, IfOk};
 ghost use Rattle.std.specs.List.{All};
 ghost use Rattle.dirac_search.specs.Candidates.{HasFormer, IsFormer, IsWithinReach, candidates_of, centre_if, centres};
-ghost use Rattle.dirac_search.specs.Candidates.{finer_candidates, further_candidates, sub_candidates, twice, vector_at};
+ghost use Rattle.dirac_search.specs.Candidates.{finer_candidates, further_candidates, sub_candidates, twice};
+ghost use Rattle.dirac_search.specs.Candidates.{field_vector};
 ghost use Rattle.dirac_search.specs.Choices.{ChoosesAs};
 ghost use Rattle.dirac_search.specs.Given.{lent};
 
@@ -17,8 +18,7 @@ use std::alloc::Global;
 #[inline(always)]
 fn doubled_component(component: i32) -> i32
     requires { unsigned_abs component ≤ 2 ^ 22 }
-    ensures value { result ≡ pos 2 *ℤ component }
-    ensures at_most_8388608 { unsigned_abs result ≤ 2 ^ 23 }
+    ensures { result ≡ pos 2 *ℤ component }
 {
     2 * component
 }
@@ -27,8 +27,7 @@ fn doubled_component(component: i32) -> i32
 #[inline(always)]
 fn doubled(v: Vector) -> Vector
     requires { IsWithinReach (2 ^ 22) v }
-    ensures value { result ≡ twice v }
-    ensures within { IsWithinReach (2 ^ 23) result }
+    ensures { result ≡ twice v }
 {
     Vector {
         x: doubled_component(v.x),
@@ -41,8 +40,7 @@ fn centre(field: &Field, i: u32, j: u32) -> Vector
     requires column { i < 4 * field.now.across }
     requires row { j < 4 * field.now.down }
     requires within { All (IsWithinReach (2 ^ 22)) field.now.vectors }
-    ensures value { result ≡ twice (vector_at field.now i j) }
-    ensures within { IsWithinReach (2 ^ 23) result }
+    ensures { result ≡ twice (field_vector field.now i j) }
 {
     doubled(field.at(i, j))
 }
@@ -58,9 +56,7 @@ fn push_centre(
     requires column { is_block ≡ true → i < 4 * field.now.across }
     requires row { is_block ≡ true → j < 4 * field.now.down }
     requires within { All (IsWithinReach (2 ^ 22)) field.now.vectors }
-    requires listed { All (IsWithinReach (2 ^ 23)) list.old }
-    ensures value { IfOk result (λ _. list.new ≡ list.old ++ centre_if is_block field.now i j) }
-    ensures within { IfOk result (λ _. All (IsWithinReach (2 ^ 23)) list.new) }
+    ensures { IfOk result (λ _. list.new ≡ list.old ++ centre_if is_block field.now i j) }
 {
     if is_block {
         list.push(centre(field, i, j))?;
@@ -72,8 +68,7 @@ fn push_centre(
 fn push_centres(list: &mut CandidateList, field: &Field, i: u32, j: u32) -> Result<(), NoMemory>
     requires empty { list.old ≡ [] }
     requires former { IsFormer field.now i j }
-    ensures value { IfOk result (λ _. list.new ≡ centres field.now i j) }
-    ensures within { IfOk result (λ _. All (IsWithinReach (2 ^ 23)) list.new) }
+    ensures { IfOk result (λ _. list.new ≡ centres field.now i j) }
 {
     let across = 4 * field.across();
     let down = 4 * field.down();
@@ -135,22 +130,22 @@ pub fn push_further(
     list: &mut CandidateList,
     room: &mut CandidateList,
     stage: Stage,
-    settings: &Settings,
+    range: u8,
     before: Option<&Field>,
     i: u32,
     j: u32,
 ) -> Result<(), NoMemory>
-    requires at_most_16 { settings.now.range ≤ 16 }
+    requires at_most_16 { range ≤ 16 }
     requires former { HasFormer stage (lent before) i j }
-    ensures value { IfOk result (λ _. list.new ≡ list.old ++ further_candidates stage settings.now.range
+    ensures value { IfOk result (λ _. list.new ≡ list.old ++ further_candidates stage range
         (lent before.entry) i j) }
     ensures within { All (IsWithinReach (2 ^ 24))
-        (further_candidates stage settings.now.range (lent before.entry) i j) }
+        (further_candidates stage range (lent before.entry) i j) }
 {
     match (stage, before) {
         (Stage::Finer(_), Some(field)) => push_finer(list, room, field, i, j),
         (Stage::Sub(_), Some(field)) => push_sub(list, field, i, j),
-        _ => push_around(list, Vector { x: 0, y: 0 }, settings.range as u8),
+        _ => push_around(list, Vector { x: 0, y: 0 }, range),
     }
 }
 
@@ -171,7 +166,8 @@ pub fn candidates(
     let mut list = CandidateList::new(alloc);
     let mut room = CandidateList::new(alloc);
     list.push(Vector { x: 0, y: 0 })?;
-    push_further(&mut list, &mut room, stage, settings, before, i, j)?;
+    let range = settings.range as u8;
+    push_further(&mut list, &mut room, stage, range, before, i, j)?;
     Ok(list)
 }
 
@@ -181,20 +177,20 @@ pub fn push_choice(
     list: &mut CandidateList,
     room: &mut CandidateList,
     stage: Stage,
-    settings: &Settings,
+    range: u8,
     before: Option<&Field>,
     i: u32,
     j: u32,
 ) -> Result<(), NoMemory>
     requires empty { list.old ≡ [] }
-    requires at_most_16 { settings.now.range ≤ 16 }
+    requires at_most_16 { range ≤ 16 }
     requires former { HasFormer stage (lent before) i j }
     ensures chooses_as_all { IfOk result (λ _. ChoosesAs list.new
-        (further_candidates stage settings.now.range (lent before.entry) i j)) }
+        (further_candidates stage range (lent before.entry) i j)) }
     ensures within { IfOk result (λ _. All (IsWithinReach (2 ^ 24)) list.new) }
 {
     match (stage, before) {
         (Stage::Finer(_), Some(field)) => push_finer_choice(list, room, field, i, j),
-        _ => push_further(list, room, stage, settings, before, i, j),
+        _ => push_further(list, room, stage, range, before, i, j),
     }
 }

@@ -1,18 +1,18 @@
-ghost use Rattle.std.specs.Prelude.{◌≡◌, ◌+◌, ◌-◌, ◌*◌, ◌<◌, ◌++◌, Some, None, Ok, IfOk};
+ghost use Rattle.std.specs.Prelude.{◌≡◌, ◌+◌, ◌*◌, ◌<◌, ◌≤◌, ◌++◌, IfOk};
 ghost use Rattle.std.specs.List.{All, flat_map};
 ghost use Rattle.dirac_vectors.specs.Predictions.{IsShortVector};
 ghost use Rattle.dirac_search.specs.ByRows.{row_values};
 ghost use Rattle.dirac_search.specs.Candidates.{IsWithinReach};
 ghost use Rattle.dirac_rows.specs.Answers.{AnswerRows};
-ghost use Rattle.dirac_search.specs.Fields.{HasFormerField, IsSearch, IsStage, after_finer, field};
-ghost use Rattle.dirac_search.specs.Fields.{stage_field, superblock_row};
-ghost use Rattle.dirac_search.specs.Given.{given, lent};
+ghost use Rattle.dirac_search.specs.Fields.{HasFormerField, IsSearch, IsStage, field};
+ghost use Rattle.dirac_search.specs.Fields.{stage_field, best_superblock_row};
+ghost use Rattle.dirac_search.specs.Given.{searched_of, lent};
 ghost use Rattle.dirac_search.specs.InBytes.{AreGiven};
-ghost use Rattle.dirac_search.specs.Staged.{IsStaged, best_at};
+ghost use Rattle.dirac_search.specs.Staged.{IsStaged, best_at, stage_behind as the_stage_behind};
 
 use crate::bytes::Bytes;
 use crate::field::Field;
-use crate::least::{Room, best_or_still, new_room};
+use crate::least::{Room, best_in, new_room};
 use crate::stage::{Search, Stage, Staged};
 use dirac_common::{NoMemory, RowGate, Vector};
 use dirac_rows::map_rows;
@@ -35,7 +35,7 @@ fn push_block_row(
         ++ row_values (4 * staged.now.search.now.across) (best_at staged.now (lent before.entry)) j) }
 {
     for i in 0..4 * staged.search.across {
-        vectors.push(best_or_still(staged, before, i, j, room)?)?;
+        vectors.push(best_in(staged, before, i, j, room)?)?;
     }
     Ok(())
 }
@@ -49,7 +49,8 @@ fn rows_of(
 ) -> Result<Vec<Vector>, NoMemory>
     requires staged { IsStaged staged.now (lent before) }
     requires row { row < staged.now.search.now.down }
-    ensures { IfOk result (λ v. v.items ≡ superblock_row (given staged.now.search.now) staged.now.settings.now
+    ensures { IfOk result
+        (λ v. v.items ≡ best_superblock_row (searched_of staged.now.search.now) staged.now.settings.now
         staged.now.stage (lent before.entry) row) }
 {
     let mut room = new_room(alloc);
@@ -70,12 +71,12 @@ pub fn search_rows(
     before: Option<&Field>,
     row: u32,
 ) -> Result<Vec<Vector>, NoMemory>
-    requires search { IsSearch (given search.now) settings.now }
+    requires search { IsSearch (searched_of search.now) settings.now }
     requires stage { IsStage settings.now stage }
-    requires former { HasFormerField (given search.now) stage (lent before) }
+    requires former { HasFormerField (searched_of search.now) stage (lent before) }
     requires row { row < search.now.down }
     ensures { IfOk result (λ v. v.items
-        ≡ superblock_row (given search.now) settings.now stage (lent before.entry) row) }
+        ≡ best_superblock_row (searched_of search.now) settings.now stage (lent before.entry) row) }
 {
     let staged = Staged {
         search,
@@ -96,12 +97,12 @@ fn stage_rows<R: Threads + Sync, G: RowGate>(
     gate: &G,
 ) -> Result<Vec<Vec<Vector>>, NoMemory>
     requires { IsStaged staged.now (lent before) }
-    ensures { IfOk result (λ rows. AnswerRows (λ r v. v.items ≡ superblock_row (given staged.now.search.now)
+    ensures { IfOk result (λ rows. AnswerRows (λ r v. v.items ≡ best_superblock_row (searched_of staged.now.search.now)
         staged.now.settings.now staged.now.stage (lent before.entry) r) staged.now.search.now.down rows.items) }
 {
     let work = |row: u32| -> Result<Vec<Vector>, NoMemory>
         requires { IsStaged staged.now (lent before) × (row < staged.now.search.now.down) }
-        ensures { IfOk result (λ v. v.items ≡ superblock_row (given staged.entry.now.search.now)
+        ensures { IfOk result (λ v. v.items ≡ best_superblock_row (searched_of staged.entry.now.search.now)
             staged.entry.now.settings.now staged.entry.now.stage (lent before.entry) row) }
     { rows_of(alloc, staged, before, row) };
     map_rows(
@@ -134,7 +135,8 @@ fn search_stage<R: Threads + Sync, G: RowGate>(
     gate: &G,
 ) -> Result<Field, NoMemory>
     requires { IsStaged staged.now (lent before) }
-    ensures { IfOk result (λ f. f ≡ stage_field (given staged.now.search.now) staged.now.settings.now staged.now.stage
+    ensures { IfOk result
+        (λ f. f ≡ stage_field (searched_of staged.now.search.now) staged.now.settings.now staged.now.stage
         (lent before.entry)) }
 {
     let rows = stage_rows(rt, alloc, staged, before, gate)?;
@@ -143,38 +145,21 @@ fn search_stage<R: Threads + Sync, G: RowGate>(
     Ok(Field::new(search.across, search.down, vectors))
 }
 
-/// The vectors after all stages in whole samples.
-fn search_whole<'a, R: Threads + Sync, G: RowGate>(
-    rt: &R,
-    alloc: Global,
-    search: &'a Search<'_>,
-    settings: &'a Settings,
-    bytes: Option<&'a Bytes>,
-    gate: &G,
-) -> Result<Field, NoMemory>
-    requires search { IsSearch (given search.now) settings.now }
-    requires bytes { AreGiven (given search.now) (lent bytes) }
-    ensures { IfOk result (λ f. f ≡ after_finer (given search.now) settings.now settings.now.pyramid) }
+/// The stage behind so many others, the first of which is the coarse one.
+fn stage_behind(settings: &Settings, n: u8) -> Stage
+    requires { settings.now.pyramid ≤ 4 }
+    ensures { result ≡ the_stage_behind settings.now n }
 {
     let levels = settings.pyramid as u8;
-    let coarse = Staged {
-        search,
-        stage: Stage::Coarse(levels),
-        settings,
-        bytes,
-    };
-    let mut field = search_stage(rt, alloc, &coarse, None, gate)?;
-    for k in 0..levels {
-        let finer = Staged {
-            stage: Stage::Finer(levels - 1 - k),
-            ..coarse
-        };
-        field = search_stage(rt, alloc, &finer, Some(&field), gate)?;
+    if n <= levels {
+        Stage::Finer(levels - n)
+    } else {
+        Stage::Sub(n - levels)
     }
-    Ok(field)
 }
 
 /// The vectors after the last stage.
+#[tactic(auto, using(crate::proofs::Bounds::after_more))]
 fn search_with<'a, R: Threads + Sync, G: RowGate>(
     rt: &R,
     alloc: Global,
@@ -183,22 +168,26 @@ fn search_with<'a, R: Threads + Sync, G: RowGate>(
     bytes: Option<&'a Bytes>,
     gate: &G,
 ) -> Result<Field, NoMemory>
-    requires search { IsSearch (given search.now) settings.now }
-    requires bytes { AreGiven (given search.now) (lent bytes) }
-    ensures value { IfOk result (λ f. f ≡ field (given search.now) settings.now) }
+    requires search { IsSearch (searched_of search.now) settings.now }
+    requires bytes { AreGiven (searched_of search.now) (lent bytes) }
+    ensures value { IfOk result (λ f. f ≡ field (searched_of search.now) settings.now) }
     ensures sizes { IfOk result (λ f. (f.across ≡ search.now.across) × (f.down ≡ search.now.down)) }
     ensures within_2175 { IfOk result (λ f. All (IsWithinReach 2175) f.vectors) }
     ensures of_16_bits { IfOk result (λ f. All IsShortVector f.vectors) }
 {
-    let mut field = search_whole(rt, alloc, search, settings, bytes, gate)?;
-    for q in 0..settings.precision as u8 {
-        let sub = Staged {
-            search,
-            stage: Stage::Sub(q + 1),
-            settings,
-            bytes,
+    let coarse = Staged {
+        search,
+        stage: Stage::Coarse(settings.pyramid as u8),
+        settings,
+        bytes,
+    };
+    let mut field = search_stage(rt, alloc, &coarse, None, gate)?;
+    for n in 0..(settings.pyramid + settings.precision) as u8 {
+        let next = Staged {
+            stage: stage_behind(settings, n + 1),
+            ..coarse
         };
-        field = search_stage(rt, alloc, &sub, Some(&field), gate)?;
+        field = search_stage(rt, alloc, &next, Some(&field), gate)?;
     }
     Ok(field)
 }
@@ -212,8 +201,8 @@ pub fn search_field<'a, R: Threads + Sync, G: RowGate>(
     settings: &'a Settings,
     gate: &G,
 ) -> Result<Field, NoMemory>
-    requires { IsSearch (given search.now) settings.now }
-    ensures value { IfOk result (λ f. f ≡ field (given search.now) settings.now) }
+    requires { IsSearch (searched_of search.now) settings.now }
+    ensures value { IfOk result (λ f. f ≡ field (searched_of search.now) settings.now) }
     ensures sizes { IfOk result (λ f. (f.across ≡ search.now.across) × (f.down ≡ search.now.down)) }
     ensures within_2175 { IfOk result (λ f. All (IsWithinReach 2175) f.vectors) }
     ensures of_16_bits { IfOk result (λ f. All IsShortVector f.vectors) }

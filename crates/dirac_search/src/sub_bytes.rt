@@ -1,14 +1,13 @@
-ghost use Rattle.std.specs.Prelude.{◌≡◌, ℕ, pos, ◌+◌, ◌-◌, ◌*◌, ◌^◌, ◌<◌, ◌≤◌, ◌+ℤ◌, ◌≤ℤ◌, unsigned_abs};
-ghost use Rattle.std.specs.Prelude.{IfSome, IfNone, IsTrue, length};
+ghost use Rattle.std.specs.Prelude.{◌≡◌, pos, ◌+◌, ◌-◌, ◌*◌, ◌^◌, ◌≤◌, unsigned_abs, IsTrue, IfSome, length};
 ghost use Rattle.dirac_upconvert.specs.SubSamples.{IsUp};
-ghost use Rattle.dirac_search.specs.Costs.{IsBelow, Reaches};
-ghost use Rattle.dirac_search.specs.InBytes.{AreBytes, AreInside, HasSpot, IsBefore, IsHeld, IsNear, IsSpot, row_at};
+ghost use Rattle.dirac_search.specs.Costs.{StopsAt};
+ghost use Rattle.dirac_search.specs.InBytes.{AreBytes, HasSpot, HasAllSamplesOfWindow, IsSpotBefore};
 ghost use Rattle.dirac_search.specs.InBytes.{start_of as the_start};
 ghost use Rattle.dirac_search.specs.Tried.{IsTried, sub_sum};
 
 use crate::byte_sums::{Corners, Strided, means_below, rows_below};
 use crate::bytes::Bytes;
-use crate::places::moved;
+use crate::places::{column, moved};
 use crate::sub_sums::{parts, sub_below};
 use crate::tried::Tried;
 use dirac_common::Plane;
@@ -19,18 +18,16 @@ use dirac_upconvert::UpPlane;
 /// lies.
 #[derive(Clone, Copy)]
 pub struct Spot {
-    pub place: i64,
-    pub rest: i64,
+    pub place: usize,
+    pub rest: usize,
 }
 
 /// The spot of a position that is counted in halves or quarters of a sample.
 #[inline(always)]
-fn spot_of(precision: u8, position: i64) -> Spot
+fn spot_of(precision: u8, position: usize) -> Spot
     requires precision { (1 ≤ precision) × (precision ≤ 2) }
-    requires position { unsigned_abs position ≤ 2 ^ 25 }
-    ensures spot { HasSpot precision position result }
-    ensures at_most_33554432 { unsigned_abs result.place ≤ 2 ^ 25 }
-    ensures near { IsNear result }
+    ensures spot { HasSpot precision (pos position) result }
+    ensures place { result.place ≤ position }
 {
     if precision == 1 {
         Spot {
@@ -38,49 +35,48 @@ fn spot_of(precision: u8, position: i64) -> Spot
             rest: 0,
         }
     } else {
-        let place = position >> 1;
         Spot {
-            place,
-            rest: position - 2 * place,
+            place: position / 2,
+            rest: position % 2,
         }
     }
 }
 
-/// The spot to which a component of a vector leads from a place of a plane.
+/// The spot to which a component of a vector leads from a place of a plane, where so many samples, a whole sample apart
+/// from it on, lie before this end.
 #[inline(always)]
-fn moved_spot(precision: u8, place: u32, component: i32) -> Spot
+fn spot_before(precision: u8, place: u32, component: i32, count: u32, end: u32) -> Option<Spot>
     requires precision { (1 ≤ precision) × (precision ≤ 2) }
     requires place { place ≤ 2 ^ 20 }
     requires component { unsigned_abs component ≤ 2 ^ 24 }
-    ensures spot { IsSpot precision place component result }
-    ensures at_most_33554432 { unsigned_abs result.place ≤ 2 ^ 25 }
-    ensures near { IsNear result }
-{
-    spot_of(precision, moved(parts(place, precision), component))
-}
-
-/// Whether so many samples, a whole sample apart from a spot on, lie before this end.
-#[inline(always)]
-fn is_before(spot: Spot, count: u32, end: u32) -> bool
-    requires place { unsigned_abs spot.place ≤ 2 ^ 25 }
-    requires near { IsNear spot }
     requires count { count ≤ 16 }
-    ensures { IsTrue result → IsBefore spot count end }
+    ensures { IfSome result (IsSpotBefore precision place component count end) }
 {
-    0 <= spot.place && spot.place + i64::from(2 * count) + spot.rest <= i64::from(end)
+    let position = moved(parts(place, precision), component);
+    if position < 0 {
+        return None;
+    }
+    let spot = spot_of(precision, column(position));
+    if spot.place + 2 * count as usize + spot.rest <= end as usize {
+        Some(spot)
+    } else {
+        None
+    }
 }
 
-/// Whether a plane has a window, and that has eight columns.
+/// Whether a plane has a window, and that has rows of eight columns.
 #[inline(always)]
 fn is_inner(source: &Plane, window: Window) -> bool
     requires x { window.x ≤ 65536 }
     requires y { window.y ≤ 65536 }
     requires rows { window.rows ≤ 16 }
     ensures columns { IsTrue result → window.columns ≡ 8 }
+    ensures some { IsTrue result → 1 ≤ window.rows }
     ensures right { IsTrue result → window.x + 8 ≤ source.now.width }
     ensures bottom { IsTrue result → window.y + window.rows ≤ source.now.height }
 {
     window.columns == 8
+        && 1 <= window.rows
         && window.x + 8 <= source.width()
         && window.y + window.rows <= source.height()
 }
@@ -93,7 +89,7 @@ fn source_rows(source: &Plane, window: Window) -> Strided
     requires some { 1 ≤ window.rows }
     ensures first { result.first ≡ window.y * source.now.width + window.x }
     ensures step { result.step ≡ source.now.width }
-    ensures whole { length source.now.values ≡ source.now.width * source.now.height }
+    ensures source_len { length source.now.values ≡ source.now.width * source.now.height }
 {
     let step = source.width() as usize;
     Strided {
@@ -111,37 +107,6 @@ fn start_of(columns: usize, x: usize, y: usize) -> usize
     ensures { result ≡ the_start columns x y }
 {
     (2 * y + x % 2) * columns + x / 2
-}
-
-/// The place of a spot that isn't left of the samples or above them.
-#[inline(always)]
-fn place_of(spot: Spot) -> usize
-    requires inside { pos 0 ≤ℤ spot.place }
-    requires small { unsigned_abs spot.place ≤ 2 ^ 25 }
-    ensures value { spot.place ≡ pos result }
-    ensures at_most_33554432 { result ≤ 2 ^ 25 }
-{
-    spot.place as usize
-}
-
-/// How far behind its place a spot lies.
-#[inline(always)]
-fn rest_of(spot: Spot) -> usize
-    requires near { IsNear spot }
-    ensures value { spot.rest ≡ pos result }
-    ensures at_most_1 { result ≤ 1 }
-{
-    spot.rest as usize
-}
-
-/// How far behind each other two rows stand, or 0 where it is the same one.
-#[inline(always)]
-fn places_under(rest: usize, columns: usize) -> usize
-    requires rest { rest ≤ 1 }
-    requires columns { columns ≤ 4096 }
-    ensures { result ≡ rest * (2 * columns) }
-{
-    if rest == 0 { 0 } else { 2 * columns }
 }
 
 /// The number of samples of a line.
@@ -168,15 +133,14 @@ fn places_below(
     requires bytes { AreBytes source.now up.now bytes.now }
     requires precision { (1 ≤ precision) × (precision ≤ 2) }
     requires tried { IsTried tried }
-    requires held { IsHeld source.now up.now precision x y tried }
-    requires rests { (x.rest ≡ pos 0) × (y.rest ≡ pos 0) }
+    requires held { HasAllSamplesOfWindow source.now up.now precision x y tried }
+    requires rests { (x.rest ≡ 0) × (y.rest ≡ 0) }
     requires some { 1 ≤ tried.window.rows }
-    ensures below { IfSome result (IsBelow tried.limit (sub_sum source.now up.now precision tried)) }
-    ensures above { IfNone result (Reaches tried.limit (sub_sum source.now up.now precision tried)) }
+    ensures { StopsAt tried.limit (sub_sum source.now up.now precision tried) result }
 {
     let columns = line_columns(up);
     let rows = Strided {
-        first: start_of(columns, place_of(x), place_of(y)),
+        first: start_of(columns, x.place, y.place),
         step: 4 * columns,
     };
     rows_below(
@@ -202,18 +166,15 @@ fn quarters_below(
     requires bytes { AreBytes source.now up.now bytes.now }
     requires quarters { precision ≡ 2 }
     requires tried { IsTried tried }
-    requires held { IsHeld source.now up.now precision x y tried }
+    requires held { HasAllSamplesOfWindow source.now up.now precision x y tried }
     requires some { 1 ≤ tried.window.rows }
-    ensures below { IfSome result (IsBelow tried.limit (sub_sum source.now up.now precision tried)) }
-    ensures above { IfNone result (Reaches tried.limit (sub_sum source.now up.now precision tried)) }
+    ensures { StopsAt tried.limit (sub_sum source.now up.now precision tried) result }
 {
     let columns = line_columns(up);
-    let across = place_of(x);
-    let down = place_of(y);
     let corners = Corners {
-        left: start_of(columns, across, down),
-        right: start_of(columns, across + rest_of(x), down),
-        under: places_under(rest_of(y), columns),
+        left: start_of(columns, x.place, y.place),
+        right: start_of(columns, x.place + x.rest, y.place),
+        under: y.rest * (2 * columns),
     };
     means_below(
         bytes.source.as_slice(),
@@ -239,10 +200,9 @@ fn held_below(
     requires bytes { AreBytes source.now up.now bytes.now }
     requires precision { (1 ≤ precision) × (precision ≤ 2) }
     requires tried { IsTried tried }
-    requires held { IsHeld source.now up.now precision x y tried }
+    requires held { HasAllSamplesOfWindow source.now up.now precision x y tried }
     requires some { 1 ≤ tried.window.rows }
-    ensures below { IfSome result (IsBelow tried.limit (sub_sum source.now up.now precision tried)) }
-    ensures above { IfNone result (Reaches tried.limit (sub_sum source.now up.now precision tried)) }
+    ensures { StopsAt tried.limit (sub_sum source.now up.now precision tried) result }
 {
     if x.rest == 0 && y.rest == 0 {
         places_below(source, up, bytes, precision, x, y, tried)
@@ -266,15 +226,20 @@ pub fn sub_below_in_bytes(
     requires bytes { AreBytes source.now up.now bytes.now }
     requires precision { precision ≤ 3 }
     requires tried { IsTried tried }
-    ensures below { IfSome result (IsBelow tried.limit (sub_sum source.now up.now precision tried)) }
-    ensures above { IfNone result (Reaches tried.limit (sub_sum source.now up.now precision tried)) }
+    ensures { StopsAt tried.limit (sub_sum source.now up.now precision tried) result }
 {
     let window = tried.window;
-    if 1 <= precision && precision <= 2 && 1 <= window.rows && is_inner(source, window) {
-        let x = moved_spot(precision, window.x, tried.v.x);
-        let y = moved_spot(precision, window.y, tried.v.y);
-        if is_before(x, 8, 2 * up.width() - 1) && is_before(y, window.rows, 2 * up.height()) {
-            return held_below(source, up, bytes, precision, x, y, tried);
+    if 1 <= precision && precision <= 2 && is_inner(source, window) {
+        if let Some(x) = spot_before(precision, window.x, tried.v.x, 8, 2 * up.width() - 1) {
+            if let Some(y) = spot_before(
+                precision,
+                window.y,
+                tried.v.y,
+                window.rows,
+                2 * up.height(),
+            ) {
+                return held_below(source, up, bytes, precision, x, y, tried);
+            }
         }
     }
     sub_below(source, up, precision, tried)

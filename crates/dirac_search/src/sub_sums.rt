@@ -1,12 +1,12 @@
-ghost use Rattle.std.specs.Prelude.{◌≡◌, ◌+◌, ◌*◌, ◌%◌, ◌^◌, ◌<◌, ◌≤◌, IfSome, IfNone, length};
+ghost use Rattle.std.specs.Prelude.{◌≡◌, ◌+◌, ◌*◌, ◌%◌, ◌^◌, ◌<◌, ◌≤◌, length};
 ghost use Rattle.dirac_search.specs.Candidates.{IsWithinReach};
-ghost use Rattle.dirac_search.specs.Costs.{Reaches, IsBelow};
+ghost use Rattle.dirac_search.specs.Costs.{StopsAt};
 ghost use Rattle.dirac_search.specs.Rows.{four_sub_rows_apart, sub_row_apart};
 ghost use Rattle.dirac_search.specs.Tried.{IsTried, sub_sum};
 
 use crate::eight_columns::four_rows_beside;
 use crate::places::moved;
-use crate::tried::Tried;
+use crate::tried::{Tried, if_below};
 use dirac_common::{Plane, Vector};
 use dirac_costs::row_differences;
 use dirac_upconvert::UpPlane;
@@ -77,8 +77,7 @@ fn sum_four_sub_rows(source: &Plane, up: &UpPlane, precision: u8, x: u32, y: u32
 fn sub_below_by_rows(source: &Plane, up: &UpPlane, precision: u8, tried: Tried) -> Option<u32>
     requires precision { precision ≤ 3 }
     requires tried { IsTried tried }
-    ensures below { IfSome result (IsBelow tried.limit (sub_sum source.now up.now precision tried)) }
-    ensures above { IfNone result (Reaches tried.limit (sub_sum source.now up.now precision tried)) }
+    ensures { StopsAt tried.limit (sub_sum source.now up.now precision tried) result }
 {
     let Tried { window, limit, .. } = tried;
     let mut room = [0i16; 16];
@@ -98,7 +97,7 @@ fn sub_below_by_rows(source: &Plane, up: &UpPlane, precision: u8, tried: Tried) 
             samples,
         );
     }
-    if sum < limit { Some(sum) } else { None }
+    if_below(sum, limit)
 }
 
 /// Sums a window of eight columns that the source has as `sub_below_by_rows` does: four rows at a time.
@@ -108,8 +107,7 @@ fn sub_below_by_four(source: &Plane, up: &UpPlane, precision: u8, tried: Tried) 
     requires eight_columns { tried.window.columns ≡ 8 }
     requires fours_of_rows { tried.window.rows % 4 ≡ 0 }
     requires x { tried.window.x + 8 ≤ source.now.width }
-    ensures below { IfSome result (IsBelow tried.limit (sub_sum source.now up.now precision tried)) }
-    ensures above { IfNone result (Reaches tried.limit (sub_sum source.now up.now precision tried)) }
+    ensures { StopsAt tried.limit (sub_sum source.now up.now precision tried) result }
 {
     let Tried { window, limit, .. } = tried;
     let mut sum = tried.first;
@@ -119,7 +117,7 @@ fn sub_below_by_four(source: &Plane, up: &UpPlane, precision: u8, tried: Tried) 
         }
         sum += sum_four_sub_rows(source, up, precision, window.x, window.y + 4 * k, tried.v);
     }
-    if sum < limit { Some(sum) } else { None }
+    if_below(sum, limit)
 }
 
 /// What is summed already and the absolute differences of a window and of the samples to which a vector in parts of a
@@ -127,8 +125,7 @@ fn sub_below_by_four(source: &Plane, up: &UpPlane, precision: u8, tried: Tried) 
 pub fn sub_below(source: &Plane, up: &UpPlane, precision: u8, tried: Tried) -> Option<u32>
     requires precision { precision ≤ 3 }
     requires tried { IsTried tried }
-    ensures below { IfSome result (IsBelow tried.limit (sub_sum source.now up.now precision tried)) }
-    ensures above { IfNone result (Reaches tried.limit (sub_sum source.now up.now precision tried)) }
+    ensures { StopsAt tried.limit (sub_sum source.now up.now precision tried) result }
 {
     let window = tried.window;
     if window.columns == 8 && window.rows % 4 == 0 && window.x + 8 <= source.width() {

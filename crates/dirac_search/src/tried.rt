@@ -1,3 +1,6 @@
+ghost use Rattle.std.specs.Prelude.{◌^◌, ◌<◌};
+ghost use Rattle.dirac_search.specs.Costs.{StopsAt};
+
 use dirac_common::Vector;
 use dirac_costs::Window;
 
@@ -9,4 +12,13 @@ pub struct Tried {
     pub v: Vector,
     pub first: u32,
     pub limit: u32,
+}
+
+/// A cost, where it is below the limit.
+#[inline(always)]
+pub fn if_below(cost: u32, limit: u32) -> Option<u32>
+    requires { cost < 2 ^ 25 }
+    ensures { StopsAt limit cost result }
+{
+    if cost < limit { Some(cost) } else { None }
 }

@@ -1,13 +1,12 @@
-ghost use Rattle.std.specs.Prelude.{◌≡◌, pos, ◌+◌, ◌*◌, ◌%◌, ◌^◌, ◌<◌, ◌≤◌, ◌+ℤ◌, ◌-ℤ◌, ◌≤ℤ◌, IfSome, IfNone};
-ghost use Rattle.std.specs.Prelude.{unsigned_abs, false, true};
+ghost use Rattle.std.specs.Prelude.{◌≡◌, pos, ◌*◌, ◌^◌, ◌≤◌, ◌-ℤ◌, unsigned_abs, true, IsTrue};
 ghost use Rattle.dirac_search.specs.Candidates.{IsWithinReach};
-ghost use Rattle.dirac_search.specs.Costs.{Reaches, IsBelow};
+ghost use Rattle.dirac_search.specs.Costs.{StopsAt};
 ghost use Rattle.dirac_search.specs.Rows.{AreColumns, clamped_row, row_apart, whole_row_apart};
-ghost use Rattle.dirac_search.specs.Tried.{HasColumns, IsTried, whole_sum};
+ghost use Rattle.dirac_search.specs.Tried.{HasColumns, HasFours, IsTried, whole_sum};
 
 use crate::eight_columns::four_rows;
 use crate::places::{column, is_inside, moved, moved_inside, nearest_row, sample_behind};
-use crate::tried::Tried;
+use crate::tried::{Tried, if_below};
 use dirac_common::{Plane, Vector};
 use dirac_costs::{difference, values_differences};
 
@@ -15,21 +14,22 @@ use dirac_costs::{difference, values_differences};
 /// clamped.
 fn clamped_difference(
     source: &Plane,
-    x: i64,
-    y: i64,
+    x: u32,
+    y: u32,
     reference: &Plane,
     across: i64,
     down: i64,
     k: usize,
 ) -> u32
-    requires x { unsigned_abs x ≤ 2 ^ 25 }
+    requires x { x ≤ 2 ^ 20 }
     requires across { unsigned_abs across ≤ 2 ^ 25 }
     requires at_most_16 { k ≤ 16 }
-    ensures value { result ≡ unsigned_abs (clamped_row source.now x y k -ℤ clamped_row reference.now across down k) }
+    ensures value { result ≡ unsigned_abs (clamped_row source.now (pos x) (pos y) k -ℤ clamped_row reference.now across
+        down k) }
     ensures at_most_65535 { result ≤ 65535 }
 {
     difference(
-        sample_behind(source, x, y, k),
+        sample_behind(source, i64::from(x), i64::from(y), k),
         sample_behind(reference, across, down, k),
     )
 }
@@ -39,17 +39,17 @@ fn clamped_difference(
 #[tactic(auto, unfolding(crate::specs::Rows::row_apart))]
 fn sum_clamped(
     source: &Plane,
-    x: i64,
-    y: i64,
+    x: u32,
+    y: u32,
     reference: &Plane,
     across: i64,
     down: i64,
     count: usize,
 ) -> u32
-    requires x { unsigned_abs x ≤ 2 ^ 25 }
+    requires x { x ≤ 2 ^ 20 }
     requires across { unsigned_abs across ≤ 2 ^ 25 }
     requires at_most_16 { count ≤ 16 }
-    ensures value { result ≡ row_apart source.now reference.now x y across down count }
+    ensures value { result ≡ row_apart source.now reference.now (pos x) (pos y) across down count }
     ensures at_most_65535_each { result ≤ 65535 * count }
 {
     let mut sum = 0;
@@ -57,32 +57,6 @@ fn sum_clamped(
         sum += clamped_difference(source, x, y, reference, across, down, k);
     }
     sum
-}
-
-/// The same, where both rows have all these samples.
-#[inline(always)]
-fn sum_inside(
-    source: &Plane,
-    x: i64,
-    y: i64,
-    reference: &Plane,
-    across: i64,
-    down: i64,
-    count: usize,
-) -> u32
-    requires x { (pos 0 ≤ℤ x) × ((x +ℤ pos count) ≤ℤ pos source.now.width) }
-    requires across { (pos 0 ≤ℤ across) × ((across +ℤ pos count) ≤ℤ pos reference.now.width) }
-    requires at_most_16 { count ≤ 16 }
-    ensures value { result ≡ row_apart source.now reference.now x y across down count }
-    ensures at_most_65535_each { result ≤ 65535 * count }
-{
-    values_differences(
-        nearest_row(source, y),
-        column(x),
-        nearest_row(reference, down),
-        column(across),
-        count,
-    )
 }
 
 /// How many columns a window has, and whether it is known that both planes have all of them.
@@ -113,25 +87,11 @@ fn sum_whole_row(
     let across = moved(x, v.x);
     let down = moved(y, v.y);
     if columns.are_inside {
-        sum_inside(
-            source,
-            i64::from(x),
-            i64::from(y),
-            reference,
-            across,
-            down,
-            columns.count,
-        )
+        let left = nearest_row(source, i64::from(y));
+        let right = nearest_row(reference, down);
+        values_differences(left, x as usize, right, column(across), columns.count)
     } else {
-        sum_clamped(
-            source,
-            i64::from(x),
-            i64::from(y),
-            reference,
-            across,
-            down,
-            columns.count,
-        )
+        sum_clamped(source, x, y, reference, across, down, columns.count)
     }
 }
 
@@ -147,8 +107,7 @@ fn whole_below_by_rows(
     requires tried { IsTried tried }
     requires columns { AreColumns source.now reference.now tried.window.x tried.v columns }
     requires of_the_window { columns.count ≡ tried.window.columns }
-    ensures below { IfSome result (IsBelow tried.limit (whole_sum source.now reference.now tried)) }
-    ensures above { IfNone result (Reaches tried.limit (whole_sum source.now reference.now tried)) }
+    ensures { StopsAt tried.limit (whole_sum source.now reference.now tried) result }
 {
     let Tried { window, limit, .. } = tried;
     let mut sum = tried.first;
@@ -158,7 +117,7 @@ fn whole_below_by_rows(
         }
         sum += sum_whole_row(source, reference, window.x, window.y + k, tried.v, columns);
     }
-    if sum < limit { Some(sum) } else { None }
+    if_below(sum, limit)
 }
 
 /// Columns that both planes have.
@@ -173,25 +132,12 @@ fn inner(count: usize) -> Columns
     }
 }
 
-/// Columns of which it isn't known whether both planes have them.
-#[inline(always)]
-fn outer(count: usize) -> Columns
-    ensures count { result.count ≡ count }
-    ensures not_known { result.are_inside ≡ false }
-{
-    Columns {
-        count,
-        are_inside: false,
-    }
-}
-
 /// Sums a window all of whose columns both planes have as `whole_below_by_rows` does. The sums over a row are compiled
 /// anew for each number of columns that is common on the levels.
 fn whole_below_by_columns(source: &Plane, reference: &Plane, tried: Tried) -> Option<u32>
     requires tried { IsTried tried }
     requires columns { HasColumns source.now reference.now tried }
-    ensures below { IfSome result (IsBelow tried.limit (whole_sum source.now reference.now tried)) }
-    ensures above { IfNone result (Reaches tried.limit (whole_sum source.now reference.now tried)) }
+    ensures { StopsAt tried.limit (whole_sum source.now reference.now tried) result }
 {
     match tried.window.columns {
         1 => whole_below_by_rows(source, reference, tried, inner(1)),
@@ -205,16 +151,9 @@ fn whole_below_by_columns(source: &Plane, reference: &Plane, tried: Tried) -> Op
 /// time.
 fn whole_below_by_four(source: &Plane, reference: &Plane, tried: Tried) -> Option<u32>
     requires tried { IsTried tried }
-    requires eight_columns { tried.window.columns ≡ 8 }
-    requires fours_of_rows { tried.window.rows % 4 ≡ 0 }
-    requires x { tried.window.x + 8 ≤ source.now.width }
-    requires y { tried.window.y + tried.window.rows ≤ source.now.height }
-    requires left { pos 0 ≤ℤ (pos tried.window.x +ℤ tried.v.x) }
-    requires right { ((pos tried.window.x +ℤ tried.v.x) +ℤ pos 8) ≤ℤ pos reference.now.width }
-    requires top { pos 0 ≤ℤ (pos tried.window.y +ℤ tried.v.y) }
-    requires bottom { ((pos tried.window.y +ℤ tried.v.y) +ℤ pos tried.window.rows) ≤ℤ pos reference.now.height }
-    ensures below { IfSome result (IsBelow tried.limit (whole_sum source.now reference.now tried)) }
-    ensures above { IfNone result (Reaches tried.limit (whole_sum source.now reference.now tried)) }
+    requires columns { HasColumns source.now reference.now tried }
+    requires fours { HasFours source.now reference.now tried }
+    ensures { StopsAt tried.limit (whole_sum source.now reference.now tried) result }
 {
     let Tried { window, limit, .. } = tried;
     let across = moved_inside(window.x, tried.v.x);
@@ -233,44 +172,57 @@ fn whole_below_by_four(source: &Plane, reference: &Plane, tried: Tried) -> Optio
             down + 4 * k,
         );
     }
-    if sum < limit { Some(sum) } else { None }
+    if_below(sum, limit)
 }
 
-/// Sums a window all of whose columns both planes have as `whole_below_by_rows` does: four rows at a time where they
-/// also have all its rows and there are eight columns.
-fn whole_below_inside(source: &Plane, reference: &Plane, tried: Tried) -> Option<u32>
-    requires tried { IsTried tried }
-    requires columns { HasColumns source.now reference.now tried }
-    ensures below { IfSome result (IsBelow tried.limit (whole_sum source.now reference.now tried)) }
-    ensures above { IfNone result (Reaches tried.limit (whole_sum source.now reference.now tried)) }
+/// Whether both planes have all columns of a window, and of the samples to which its vector leads.
+#[inline(always)]
+fn has_columns(source: &Plane, reference: &Plane, tried: Tried) -> bool
+    requires { IsTried tried }
+    ensures { IsTrue result → HasColumns source.now reference.now tried }
 {
     let window = tried.window;
-    let down = moved(window.y, tried.v.y);
-    let rows = window.rows as usize;
-    if window.columns == 8
-        && window.rows % 4 == 0
-        && window.y + window.rows <= source.height()
-        && is_inside(down, rows, reference.height())
-    {
-        whole_below_by_four(source, reference, tried)
-    } else {
-        whole_below_by_columns(source, reference, tried)
+    let across = moved(window.x, tried.v.x);
+    window.x + window.columns <= source.width()
+        && is_inside(across, window.columns as usize, reference.width())
+}
+
+/// Whether both planes also have all its rows, and these are fours of rows of eight samples.
+#[inline(always)]
+fn has_fours(source: &Plane, reference: &Plane, tried: Tried) -> bool
+    requires { IsTried tried }
+    ensures { IsTrue result → HasFours source.now reference.now tried }
+{
+    let window = tried.window;
+    if window.columns != 8 {
+        return false;
     }
+    if window.rows % 4 != 0 {
+        return false;
+    }
+    if window.y + window.rows > source.height() {
+        return false;
+    }
+    let down = moved(window.y, tried.v.y);
+    is_inside(down, window.rows as usize, reference.height())
 }
 
 /// What is summed already and the absolute differences of a window and of the whole samples to which a vector leads,
 /// where all of it is below the limit. The summing ends as soon as it isn't.
 pub fn whole_below(source: &Plane, reference: &Plane, tried: Tried) -> Option<u32>
     requires { IsTried tried }
-    ensures below { IfSome result (IsBelow tried.limit (whole_sum source.now reference.now tried)) }
-    ensures above { IfNone result (Reaches tried.limit (whole_sum source.now reference.now tried)) }
+    ensures { StopsAt tried.limit (whole_sum source.now reference.now tried) result }
 {
-    let window = tried.window;
-    let across = moved(window.x, tried.v.x);
-    let count = window.columns as usize;
-    if window.x + window.columns > source.width() || !is_inside(across, count, reference.width()) {
-        whole_below_by_rows(source, reference, tried, outer(count))
+    if !has_columns(source, reference, tried) {
+        let columns = Columns {
+            count: tried.window.columns as usize,
+            are_inside: false,
+        };
+        return whole_below_by_rows(source, reference, tried, columns);
+    }
+    if has_fours(source, reference, tried) {
+        whole_below_by_four(source, reference, tried)
     } else {
-        whole_below_inside(source, reference, tried)
+        whole_below_by_columns(source, reference, tried)
     }
 }

@@ -1,13 +1,13 @@
-ghost use Rattle.std.specs.Prelude.{◌≡◌, ◌*◌, ◌^◌, ◌<◌, ◌≤◌, length, IfSome, IfNone};
+ghost use Rattle.std.specs.Prelude.{◌≡◌, ◌*◌, ◌^◌, ◌<◌, ◌≤◌, length};
 ghost use Rattle.dirac_search.specs.declared.stage.Stage.TheVariants as stage;
 ghost use Rattle.dirac_costs.specs.Bits.{bits_of_vector};
 ghost use Rattle.dirac_search.specs.Candidates.{IsWithinReach};
-ghost use Rattle.dirac_search.specs.Costs.{HasLevel, HasPrecision, IsBlockWindow, Reaches, IsBelow, cost_of};
-ghost use Rattle.dirac_search.specs.Costs.{level_of_stage, window_cost, window_of, window_size};
-ghost use Rattle.dirac_search.specs.Costs.{window_start};
+ghost use Rattle.dirac_search.specs.Costs.{HasLevel, IsBlockWindow, StopsAt, cost_of, level_of_stage, window_of};
+ghost use Rattle.dirac_search.specs.Costs.{window_size, window_start};
 ghost use Rattle.dirac_search.specs.Fields.{IsSearch, IsStage};
-ghost use Rattle.dirac_search.specs.Given.{given, lent};
+ghost use Rattle.dirac_search.specs.Given.{searched_of, lent};
 ghost use Rattle.dirac_search.specs.InBytes.{AreGiven};
+ghost use Rattle.dirac_search.specs.Staged.{IsCompared, cost_at};
 ghost use Rattle.dirac_search.specs.Tried.{IsTried, stage_sum};
 
 use crate::stage::{Search, Stage, Staged};
@@ -58,7 +58,7 @@ pub fn window(search: &Search<'_>, stage: Stage, i: u32, j: u32) -> Window
     requires y_separation { search.now.grid.ybsep ≤ 16 }
     requires column { i < 4096 }
     requires row { j < 4096 }
-    ensures value { result ≡ window_of (given search.now) stage i j }
+    ensures value { result ≡ window_of (searched_of search.now) stage i j }
     ensures within { IsBlockWindow result }
 {
     let level = level_of(stage);
@@ -73,10 +73,10 @@ pub fn window(search: &Search<'_>, stage: Stage, i: u32, j: u32) -> Window
 /// What a vector's bits cost and the differences of a window on a level, where all of it is below the limit.
 #[inline(always)]
 fn whole_cost_below(search: &Search<'_>, level: u8, tried: Tried) -> Option<u32>
-    requires levels { (level < length (given search.now).source) × (level < length (given search.now).reference) }
+    requires levels { (level < length (searched_of search.now).source)
+        × (level < length (searched_of search.now).reference) }
     requires tried { IsTried tried }
-    ensures below { IfSome result (IsBelow tried.limit (stage_sum (given search.now) (stage.Coarse level) tried)) }
-    ensures above { IfNone result (Reaches tried.limit (stage_sum (given search.now) (stage.Coarse level) tried)) }
+    ensures { StopsAt tried.limit (stage_sum (searched_of search.now) (stage.Coarse level) tried) result }
 {
     whole_below(
         search.source.level(level),
@@ -88,40 +88,17 @@ fn whole_cost_below(search: &Search<'_>, level: u8, tried: Tried) -> Option<u32>
 /// What a vector's bits cost and the differences of a window in parts of a sample, where all of it is below the limit.
 #[inline(always)]
 fn sub_cost_below(staged: &Staged<'_, '_, '_, '_>, precision: u8, tried: Tried) -> Option<u32>
-    requires levels { HasLevel (given staged.now.search.now) (stage.Sub precision) }
-    requires bytes { AreGiven (given staged.now.search.now) (lent staged.now.bytes) }
+    requires levels { HasLevel (searched_of staged.now.search.now) (stage.Sub precision) }
+    requires bytes { AreGiven (searched_of staged.now.search.now) (lent staged.now.bytes) }
     requires precision { precision ≤ 3 }
     requires tried { IsTried tried }
-    ensures below { IfSome result (IsBelow tried.limit (stage_sum (given staged.now.search.now) (stage.Sub precision)
-        tried)) }
-    ensures above { IfNone result (Reaches tried.limit (stage_sum (given staged.now.search.now) (stage.Sub precision)
-        tried)) }
+    ensures { StopsAt tried.limit (stage_sum (searched_of staged.now.search.now) (stage.Sub precision) tried) result }
 {
     let search = staged.search;
     let source = search.source.level(0);
     match staged.bytes {
         Some(bytes) => sub_below_in_bytes(source, search.up, bytes, precision, tried),
         None => sub_below(source, search.up, precision, tried),
-    }
-}
-
-/// What a vector's bits cost and the differences of a window at a stage, where all of it is below the limit. The
-/// summing ends as soon as it isn't.
-#[inline(always)]
-fn stage_cost_below(staged: &Staged<'_, '_, '_, '_>, tried: Tried) -> Option<u32>
-    requires levels { HasLevel (given staged.now.search.now) staged.now.stage }
-    requires precision { HasPrecision staged.now.stage }
-    requires bytes { AreGiven (given staged.now.search.now) (lent staged.now.bytes) }
-    requires tried { IsTried tried }
-    ensures below { IfSome result (IsBelow tried.limit (stage_sum (given staged.now.search.now) staged.now.stage
-        tried)) }
-    ensures above { IfNone result (Reaches tried.limit (stage_sum (given staged.now.search.now) staged.now.stage
-        tried)) }
-{
-    match staged.stage {
-        Stage::Coarse(level) => whole_cost_below(staged.search, level, tried),
-        Stage::Finer(level) => whole_cost_below(staged.search, level, tried),
-        Stage::Sub(precision) => sub_cost_below(staged, precision, tried),
     }
 }
 
@@ -136,7 +113,7 @@ fn bits_cost(bias: u32, v: Vector) -> u32
 }
 
 /// What a vector costs a window, where that is below a limit. Where its bits alone cost as much, which is so of most
-/// vectors that lead far off, no sample is read.
+/// vectors that lead far off, no sample is read. The summing ends as soon as the limit is reached.
 #[inline(always)]
 pub(crate) fn cost_below(
     staged: &Staged<'_, '_, '_, '_>,
@@ -144,28 +121,24 @@ pub(crate) fn cost_below(
     v: Vector,
     limit: u32,
 ) -> Option<u32>
-    requires levels { HasLevel (given staged.now.search.now) staged.now.stage }
-    requires precision { HasPrecision staged.now.stage }
-    requires at_most_255 { staged.now.settings.now.bias ≤ 255 }
-    requires bytes { AreGiven (given staged.now.search.now) (lent staged.now.bytes) }
-    requires window { IsBlockWindow window }
+    requires compared { IsCompared staged.now window }
     requires v { IsWithinReach (2 ^ 24) v }
-    ensures below { IfSome result (IsBelow limit (window_cost (given staged.now.search.now) staged.now.settings.now.bias
-        staged.now.stage window v)) }
-    ensures above { IfNone result (Reaches limit (window_cost (given staged.now.search.now) staged.now.settings.now.bias
-        staged.now.stage window v)) }
+    ensures { StopsAt limit (cost_at staged.now window v) result }
 {
     let bits = bits_cost(staged.settings.bias, v);
-    if bits < limit {
-        let tried = Tried {
-            window,
-            v,
-            first: bits,
-            limit,
-        };
-        stage_cost_below(staged, tried)
-    } else {
-        None
+    if bits >= limit {
+        return None;
+    }
+    let tried = Tried {
+        window,
+        v,
+        first: bits,
+        limit,
+    };
+    match staged.stage {
+        Stage::Coarse(level) => whole_cost_below(staged.search, level, tried),
+        Stage::Finer(level) => whole_cost_below(staged.search, level, tried),
+        Stage::Sub(precision) => sub_cost_below(staged, precision, tried),
     }
 }
 
@@ -174,14 +147,9 @@ const MORE_THAN_ANY_COST: u32 = 1 << 25;
 
 /// What a vector costs a window.
 pub(crate) fn whole_cost(staged: &Staged<'_, '_, '_, '_>, window: Window, v: Vector) -> u32
-    requires levels { HasLevel (given staged.now.search.now) staged.now.stage }
-    requires precision { HasPrecision staged.now.stage }
-    requires at_most_255 { staged.now.settings.now.bias ≤ 255 }
-    requires bytes { AreGiven (given staged.now.search.now) (lent staged.now.bytes) }
-    requires window { IsBlockWindow window }
+    requires compared { IsCompared staged.now window }
     requires v { IsWithinReach (2 ^ 24) v }
-    ensures { result ≡ window_cost (given staged.now.search.now) staged.now.settings.now.bias staged.now.stage window
-        v }
+    ensures { result ≡ cost_at staged.now window v }
 {
     match cost_below(staged, window, v, MORE_THAN_ANY_COST) {
         Some(cost) => cost,
@@ -199,12 +167,12 @@ pub fn cost(
     j: u32,
     v: Vector,
 ) -> u64
-    requires search { IsSearch (given search.now) settings.now }
+    requires search { IsSearch (searched_of search.now) settings.now }
     requires stage { IsStage settings.now stage }
     requires column { i < 4 * search.now.across }
     requires row { j < 4 * search.now.down }
     requires v { IsWithinReach (2 ^ 24) v }
-    ensures { result ≡ cost_of (given search.now) settings.now.bias stage i j v }
+    ensures { result ≡ cost_of (searched_of search.now) settings.now.bias stage i j v }
 {
     let staged = Staged {
         search,

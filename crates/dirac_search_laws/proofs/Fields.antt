@@ -3,7 +3,7 @@ use Rattle.std.proofs.Common.{◌≡◌, ℕ, suc, ◌-◌, ◌*◌, ◌<◌, Op
 use Rattle.dirac_types.specs.declared.settings.Settings.{Settings}
 use Rattle.dirac_search.specs.declared.stage.Stage.{Stage}
 use Rattle.dirac_search.specs.declared.stage.Stage.TheVariants as stage
-use Rattle.dirac_search.specs.Candidates.{Vectors, no_motion, vector_at}
+use Rattle.dirac_search.specs.Candidates.{Vectors, no_motion, field_vector}
 use Rattle.dirac_search.specs.Costs.{cost_of}
 use Rattle.dirac_search.specs.Fields.{after_finer, after_sub, best_of, stage_field}
 use Rattle.dirac_search.specs.Given.{Searched}
@@ -21,7 +21,7 @@ best_least g s st before i j = first_of_least (cost_of g s.bias st i j) no_motio
 
 -- it stands in the field of the stage
 pub vector_is_best : (g : Searched) (s : Settings) (st : Stage) (before : Option Vectors) (i j : ℕ) → i < 4 * g.across → j < 4 * g.down
-    → vector_at (stage_field g s st before) i j ≡ best_of g s st before i j
+    → field_vector (stage_field g s st before) i j ≡ best_of g s st before i j
 unfolding stage_field
 vector_is_best g s st before i j column row = rows_at (4 * g.across) (4 * g.down) (best_of g s st before) i j no_motion column row
 

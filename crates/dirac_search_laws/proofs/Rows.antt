@@ -3,7 +3,7 @@ use Rattle.std.proofs.Common.{◌≡◌, ℕ, zero, suc, ◌+◌, ◌*◌, ◌<�
 use Rattle.std.specs.List.{flat_map, range_with_len}
 use Rattle.std.proofs.lemmas.List.FromFn.{get_or-map-range_with_len, length-map-range_with_len}
 use Rattle.std.proofs.lemmas.List.{get_or-append-add, get_or_append_left}
-use Rattle.dirac_search.specs.ByRows.{by_rows, row_values}
+use Rattle.dirac_search.specs.ByRows.{listed_by_rows, row_values}
 
 -- column x of the row that is y rows behind row a
 row_at : {A : Type 0} (w : ℕ) (f : ℕ → ℕ → A) (a h x y : ℕ) (d : A) → x < w → y < h
@@ -34,6 +34,6 @@ row_at w f a (suc h) x (suc y) d column row =
     next = omega arith
 
 -- column x of row y
-pub rows_at : {A : Type 0} (w h : ℕ) (f : ℕ → ℕ → A) (x y : ℕ) (d : A) → x < w → y < h → get_or (by_rows w h f) (y * w + x) d ≡ f x y
-unfolding by_rows
+pub rows_at : {A : Type 0} (w h : ℕ) (f : ℕ → ℕ → A) (x y : ℕ) (d : A) → x < w → y < h → get_or (listed_by_rows w h f) (y * w + x) d ≡ f x y
+unfolding listed_by_rows
 rows_at w h f x y d column row = row_at w f 0 h x y d column row ∙ ap (f x) (omega arith)

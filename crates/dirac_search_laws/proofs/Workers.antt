@@ -6,7 +6,7 @@ use Rattle.dirac_search.specs.declared.stage.Stage.TheVariants as stage
 use Rattle.dirac_search.specs.Candidates.{Vectors}
 use Rattle.dirac_search.specs.Fields.{after_finer, after_sub, best_of, stage_field}
 use Rattle.dirac_search.specs.Given.{Searched}
-use Rattle.dirac_search.specs.Kept.{kept, stage_keeps}
+use Rattle.dirac_search.specs.Kept.{candidates_kept, stage_keeps}
 use Rattle.dirac_search_laws.specs.Fields.{WorkersChangeNoField}
 
 -- the same settings with that many workers
@@ -14,7 +14,7 @@ abbrev by : Settings → ℕ → Settings
 by s w = record s { workers = w }
 
 stage_same : (g : Searched) (s : Settings) (w : ℕ) (st : Stage) (before : Option Vectors) → stage_field g (by s w) st before ≡ stage_field g s st before
-unfolding stage_field best_of kept stage_keeps
+unfolding stage_field best_of candidates_kept stage_keeps
 stage_same g s w st before = refl
 
 finer_same : (g : Searched) (s : Settings) (w k : ℕ) → after_finer g (by s w) k ≡ after_finer g s k

@@ -5,11 +5,11 @@ use Rattle.dirac_types.specs.declared.settings.Settings.{Settings}
 use Rattle.dirac_inside.specs.Inside.{KeepsInside}
 use Rattle.dirac_search.specs.declared.stage.Stage.{Stage}
 use Rattle.dirac_search.specs.declared.stage.Stage.TheVariants as stage
-use Rattle.dirac_search.specs.Candidates.{Vectors, candidates_of, vector_at}
+use Rattle.dirac_search.specs.Candidates.{Vectors, candidates_of, field_vector}
 use Rattle.dirac_search.specs.Costs.{cost_of}
 use Rattle.dirac_search.specs.Fields.{IsSearch, IsStage, after_finer, after_sub, field}
 use Rattle.dirac_search.specs.Given.{Searched}
-use Rattle.dirac_search.specs.Kept.{blocks_of, stage_keeps, taken_candidates}
+use Rattle.dirac_search.specs.Kept.{searched_blocks, stage_keeps, taken_candidates}
 use Rattle.dirac_search_laws.specs.Least.{IsFirstOfLeastCost}
 
 -- after a stage the vector of each block is the first of least cost among the block's candidates at this stage, those
@@ -17,7 +17,7 @@ use Rattle.dirac_search_laws.specs.Least.{IsFirstOfLeastCost}
 abbrev pub AreLeastVectors : Searched → Settings → Stage → Option Vectors → Vectors → Type 0
 AreLeastVectors g s stage before after =
     (i j : ℕ) → i < 4 * g.across → j < 4 * g.down
-    → IsFirstOfLeastCost (cost_of g s.bias stage i j) (taken_candidates g s stage before i j) (vector_at after i j)
+    → IsFirstOfLeastCost (cost_of g s.bias stage i j) (taken_candidates g s stage before i j) (field_vector after i j)
 
 -- this holds after the coarse stage, after each finer one, and after each in parts of a sample: the field is what
 -- stands after the last of them
@@ -49,7 +49,7 @@ abbrev pub FieldsKeepInside : Type 0
 FieldsKeepInside =
     (g : Searched) (s : Settings) → IsSearch g s → (s.alike ≡ 0 → ⊥)
     → (i j : ℕ) → i < 4 * g.across → j < 4 * g.down
-    → KeepsInside (blocks_of g s) s.precision i j (vector_at (field g s) i j)
+    → KeepsInside (searched_blocks g s) s.precision i j (field_vector (field g s) i j)
 
 -- settings that differ in the number of workers alone have the same field
 abbrev pub WorkersChangeNoField : Type 0

@@ -9,12 +9,12 @@ use Rattle.dirac_common.specs.declared.formats.Chroma.TheVariants.{C444, C422, C
 use Rattle.dirac_types.specs.declared.settings.Settings.{Settings}
 use Rattle.dirac_common.specs.Numbers.{uint}
 use Rattle.dirac_bits.specs.Spelling.{Spells}
-use Rattle.dirac_bits.specs.Syntax.{Syntax, done, refuse, ◌>>=◌, field, between, custom}
+use Rattle.dirac_bits.specs.Syntax.{Syntax, done, refuse, ◌>>=◌, number_field, between, custom}
 use Rattle.dirac_sequence_header.specs.declared.sequence.Sequence.{Sequence}
 use Rattle.dirac_sequence_header.specs.declared.sequence.SignalRange.{SignalRange}
-use Rattle.dirac_sequence_header.specs.Grammar.{base_format, size, chroma_of, own_chroma, is_whole, chroma, sampling, rate, fraction, frames, aspect, clean_area, own_range, signal_range, signal, is_depth, samples, colours, values, has_whole_fields, coding_mode, sequence}
+use Rattle.dirac_sequence_header.specs.Grammar.{base_format_fields, size, chroma_of, own_chroma, is_whole, chroma, sampling, rate, fraction, frames, aspect, clean_area, own_range, signal_range, signal, is_depth, samples, colours, values, has_whole_fields, coding_mode, sequence}
 use Rattle.dirac_sequence_header.specs.Tables.{preset, rate_of, range_of}
-use Rattle.dirac_sequence.specs.Written.{IsWritable, is_same, index_of, is_own_size, is_own_chroma, is_own_rate, is_own_signal, custom_bits, base_bits, whole_area_bits, frames_bits, samples_bits, sequence_bits, sequence_of}
+use Rattle.dirac_sequence.specs.Written.{IsWritable, is_same_pair, index_of, is_own_size, is_own_chroma, is_own_rate, is_own_signal, custom_bits, base_bits, whole_area_bits, frames_bits, samples_bits, sequence_bits, sequence_of}
 use Rattle.dirac_bits.proofs.Fields.{spells_then, spells_last, field_spelled, between_is}
 
 -- a custom flag and what it announces, or the default
@@ -27,9 +27,9 @@ custom_spelled default s x false bits k spelled same = (false, [], refl, (same r
 default_spelled : {A : Type 0} (default : A) (s : Syntax A) (k : ℕ) → Spells (custom default s) default k (false ∷ [])
 default_spelled default s k = (false, [], refl, (refl, refl))
 
-same_pair : (a b : ℕ × ℕ) → not (is_same a b) ≡ false → b ≡ a
+same_pair : (a b : ℕ × ℕ) → not (is_same_pair a b) ≡ false → b ≡ a
 same_pair a b e =
-    let same : is_same a b ≡ true = grind arith in
+    let same : is_same_pair a b ≡ true = grind arith in
     let parts = and_parts (a.0 == b.0) (a.1 == b.1) same in
     let pair : ℕ → ℕ → ℕ × ℕ = λ x y. (x, y) in
     sym (ap₂ pair (eqb-true a.0 b.0 parts.0) (eqb-true a.1 b.1 parts.1))
@@ -50,14 +50,14 @@ size_spelled t k w =
     let k1 = k + 1 in
     let k2 = k1 + length (uint t.width) in
     let pair : ℕ → ℕ → Syntax (ℕ × ℕ) = λ a b. done (a, b) in
-    let next : ℕ → Syntax (ℕ × ℕ) = λ a. field Size (between 1 2304) >>= pair a in
+    let next : ℕ → Syntax (ℕ × ℕ) = λ a. number_field Size (between 1 2304) >>= pair a in
     let limits = w.size in
     let height = field_spelled Size (between 1 2304) t.height k2 (omega arith) (between_is 1 2304 t.height limits.2 limits.3) in
     let last : Spells (next t.width) (t.width, t.height) k2 (uint t.height) =
-    spells_last (field Size (between 1 2304)) (pair t.width) t.height (t.width, t.height) k2 (uint t.height) height (refl, refl) in
-    let own = spells_then (field Size (between 1 4096)) next t.width (t.width, t.height) k1 (uint t.width) (uint t.height)
+    spells_last (number_field Size (between 1 2304)) (pair t.width) t.height (t.width, t.height) k2 (uint t.height) height (refl, refl) in
+    let own = spells_then (number_field Size (between 1 4096)) next t.width (t.width, t.height) k1 (uint t.width) (uint t.height)
     (field_spelled Size (between 1 4096) t.width k1 (omega arith) (between_is 1 4096 t.width limits.0 limits.1)) last in
-    custom_spelled ((preset t.base).width, (preset t.base).height) (field Size (between 1 4096) >>= next) (t.width, t.height) (is_own_size t) (uint t.width ++ uint t.height) k own
+    custom_spelled ((preset t.base).width, (preset t.base).height) (number_field Size (between 1 4096) >>= next) (t.width, t.height) (is_own_size t) (uint t.width ++ uint t.height) k own
     (same_pair (t.width, t.height) ((preset t.base).width, (preset t.base).height))
 
 own_chroma_spelled : (t : Settings) (k : ℕ) → IsWritable t → Spells (own_chroma (preset t.base).chroma) (chroma_of t.chroma) k (custom_bits (is_own_chroma t) (uint t.chroma))
@@ -65,8 +65,8 @@ unfolding own_chroma
 own_chroma_spelled t k w =
     let made : ℕ → Syntax Chroma = λ n. done (chroma_of n) in
     let number = field_spelled ChromaFormat (between 0 2) t.chroma (k + 1) (omega (arith, w.chroma)) (between_is 0 2 t.chroma (omega arith) w.chroma) in
-    let own = spells_last (field ChromaFormat (between 0 2)) made t.chroma (chroma_of t.chroma) (k + 1) (uint t.chroma) number (refl, refl) in
-    custom_spelled (preset t.base).chroma (field ChromaFormat (between 0 2) >>= made) (chroma_of t.chroma) (is_own_chroma t) (uint t.chroma) k own (same_chroma t.chroma (preset t.base).chroma)
+    let own = spells_last (number_field ChromaFormat (between 0 2)) made t.chroma (chroma_of t.chroma) (k + 1) (uint t.chroma) number (refl, refl) in
+    custom_spelled (preset t.base).chroma (number_field ChromaFormat (between 0 2) >>= made) (chroma_of t.chroma) (is_own_chroma t) (uint t.chroma) k own (same_chroma t.chroma (preset t.base).chroma)
 
 chroma_spelled : (t : Settings) (k : ℕ) → IsWritable t → Spells (chroma (t.width, t.height) (preset t.base).chroma) (chroma_of t.chroma) k (custom_bits (is_own_chroma t) (uint t.chroma))
 unfolding chroma
@@ -83,9 +83,9 @@ rate_spelled t k w =
     let made : ℕ → Syntax (ℕ × ℕ) = λ n. if n == 0 then fraction else done (rate_of n) in
     let some : (t.rate == 0) ≡ false = ne_eqb t.rate 0 (λ e. omega arith) in
     let number = field_spelled RateIndex (between 0 10) t.rate (k + 1) (omega arith) (between_is 0 10 t.rate (omega arith) limits.1) in
-    let own = spells_last (field RateIndex (between 0 10)) made t.rate (rate_of t.rate) (k + 1) (uint t.rate) number
+    let own = spells_last (number_field RateIndex (between 0 10)) made t.rate (rate_of t.rate) (k + 1) (uint t.rate) number
     (subst (λ (b : Bool). Spells (if b then fraction else done (rate_of t.rate)) (rate_of t.rate) (k + 1 + length (uint t.rate)) []) (sym some) (refl, refl)) in
-    custom_spelled (preset t.base).rate (field RateIndex (between 0 10) >>= made) (rate_of t.rate) (is_own_rate t) (uint t.rate) k own (same_pair (rate_of t.rate) (preset t.base).rate)
+    custom_spelled (preset t.base).rate (number_field RateIndex (between 0 10) >>= made) (rate_of t.rate) (is_own_rate t) (uint t.rate) k own (same_pair (rate_of t.rate) (preset t.base).rate)
 
 -- the base's values with versions, profile and level
 begun : Settings → Sequence
@@ -95,8 +95,8 @@ begun t = record (preset t.base) { major = 2; minor = 2; profile = t.profile; le
 framed : Settings → Sequence
 framed t = record (begun t) { width = t.width; height = t.height; chroma = chroma_of t.chroma; rate = rate_of t.rate }
 
-base_spelled : (t : Settings) (k : ℕ) → IsWritable t → Spells base_format (begun t) k (base_bits t)
-unfolding base_format begun
+base_spelled : (t : Settings) (k : ℕ) → IsWritable t → Spells base_format_fields (begun t) k (base_bits t)
+unfolding base_format_fields begun
 base_spelled t k w =
     let two = uint 2 in
     let profile = uint t.profile in
@@ -104,8 +104,8 @@ base_spelled t k w =
     let base = uint t.base in
     let k4 = k + length two + length two + length profile + length level in
     let made : ℕ → Syntax Sequence = λ n. done (record (preset n) { major = 2; minor = 2; profile = t.profile; level = t.level }) in
-    let last : Spells (field Preset (between 0 LAST_BASE) >>= made) (begun t) k4 base =
-    spells_last (field Preset (between 0 LAST_BASE)) made t.base (begun t) k4 base (field_spelled Preset (between 0 LAST_BASE) t.base k4 (omega (arith, w.base)) (between_is 0 LAST_BASE t.base (omega arith) w.base)) (refl, refl) in
+    let last : Spells (number_field Preset (between 0 LAST_BASE) >>= made) (begun t) k4 base =
+    spells_last (number_field Preset (between 0 LAST_BASE)) made t.base (begun t) k4 base (field_spelled Preset (between 0 LAST_BASE) t.base k4 (omega (arith, w.base)) (between_is 0 LAST_BASE t.base (omega arith) w.base)) (refl, refl) in
     let parts : base_bits t ≡ two ++ (two ++ (profile ++ (level ++ base))) = simp append_assoc in
     (2, two ++ (profile ++ (level ++ base)), omega arith, parts, (2, profile ++ (level ++ base), omega arith, refl, (t.profile, level ++ base, omega (arith, w.profile), refl, (t.level, base, omega (arith, w.level), refl, last))))
 
@@ -151,8 +151,8 @@ same_range : (t : Settings) → is_own_signal t ≡ false → record { luma = (p
 same_range t e =
     let a = range_of t.signal in
     let b = preset t.base in
-    let same : (is_same a.luma b.luma && is_same a.colour b.colour) ≡ true = grind arith in
-    let parts = and_parts (is_same a.luma b.luma) (is_same a.colour b.colour) same in
+    let same : (is_same_pair a.luma b.luma && is_same_pair a.colour b.colour) ≡ true = grind arith in
+    let parts = and_parts (is_same_pair a.luma b.luma) (is_same_pair a.colour b.colour) same in
     let both : ℕ × ℕ → ℕ × ℕ → SignalRange = λ x y. record { luma = x; colour = y } in
     ap₂ both (same_pair a.luma b.luma (ap not parts.0)) (same_pair a.colour b.colour (ap not parts.1))
 
@@ -164,9 +164,9 @@ range_spelled t k w =
     let made : ℕ → Syntax SignalRange = λ n. if n == 0 then own_range else done (range_of n) in
     let some : (t.signal == 0) ≡ false = ne_eqb t.signal 0 (λ e. omega arith) in
     let number = field_spelled SignalIndex (between 0 4) t.signal (k + 1) (omega arith) (between_is 0 4 t.signal (omega arith) (omega arith)) in
-    let own = spells_last (field SignalIndex (between 0 4)) made t.signal (range_of t.signal) (k + 1) (uint t.signal) number
+    let own = spells_last (number_field SignalIndex (between 0 4)) made t.signal (range_of t.signal) (k + 1) (uint t.signal) number
     (subst (λ (b : Bool). Spells (if b then own_range else done (range_of t.signal)) (range_of t.signal) (k + 1 + length (uint t.signal)) []) (sym some) (refl, refl)) in
-    custom_spelled (record { luma = (preset t.base).luma; colour = (preset t.base).colour }) (field SignalIndex (between 0 4) >>= made) (range_of t.signal) (is_own_signal t) (uint t.signal) k own (same_range t)
+    custom_spelled (record { luma = (preset t.base).luma; colour = (preset t.base).colour }) (number_field SignalIndex (between 0 4) >>= made) (range_of t.signal) (is_own_signal t) (uint t.signal) k own (same_range t)
 
 signal_spelled : (t : Settings) (k : ℕ) → IsWritable t
     → Spells (signal (record { luma = (preset t.base).luma; colour = (preset t.base).colour })) (range_of t.signal) k (custom_bits (is_own_signal t) (uint t.signal))
@@ -226,7 +226,7 @@ values_spelled t k w =
     let c = samples_bits t in
     let second : Sequence → Syntax Sequence = λ s. frames s >>= samples in
     let more = spells_then (frames (begun t)) samples (framed t) (shown t) (k + length a) b c (frames_spelled t (k + length a) w) (samples_spelled t (k + length a + length b) w) in
-    let all = spells_then base_format second (begun t) (shown t) k a (b ++ c) (base_spelled t k w) more in
+    let all = spells_then base_format_fields second (begun t) (shown t) k a (b ++ c) (base_spelled t k w) more in
     let parts : a ++ (b ++ c) ≡ a ++ b ++ c = simp append_assoc in
     subst (λ (l : List Bool). Spells values (shown t) k l) parts all
 

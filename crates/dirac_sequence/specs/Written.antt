@@ -29,8 +29,8 @@ pub record IsWritable (t : Settings) : Type 0 where
   pub whole_fields : t.fields ≡ 1 → t.height % (2 * ratio_down (chroma_of t.chroma)) ≡ 0
 
 -- both numbers are the same
-abbrev pub is_same : ℕ × ℕ → ℕ × ℕ → Bool
-is_same a b = a.0 == b.0 && a.1 == b.1
+abbrev pub is_same_pair : ℕ × ℕ → ℕ × ℕ → Bool
+is_same_pair a b = a.0 == b.0 && a.1 == b.1
 
 -- the index of a chroma format
 abbrev pub index_of : Chroma → ℕ
@@ -40,7 +40,7 @@ index_of C420 = 2
 
 -- whether the base's size is replaced
 abbrev pub is_own_size : Settings → Bool
-is_own_size t = not (is_same (t.width, t.height) ((preset t.base).width, (preset t.base).height))
+is_own_size t = not (is_same_pair (t.width, t.height) ((preset t.base).width, (preset t.base).height))
 
 -- whether its chroma format is
 abbrev pub is_own_chroma : Settings → Bool
@@ -48,13 +48,13 @@ is_own_chroma t = not (t.chroma == index_of (preset t.base).chroma)
 
 -- whether its frame rate is
 abbrev pub is_own_rate : Settings → Bool
-is_own_rate t = not (is_same (rate_of t.rate) (preset t.base).rate)
+is_own_rate t = not (is_same_pair (rate_of t.rate) (preset t.base).rate)
 
 -- whether its signal range is
 abbrev pub is_own_signal : Settings → Bool
 is_own_signal t =
-    not (is_same (range_of t.signal).luma (preset t.base).luma
-    && is_same (range_of t.signal).colour (preset t.base).colour)
+    not (is_same_pair (range_of t.signal).luma (preset t.base).luma
+    && is_same_pair (range_of t.signal).colour (preset t.base).colour)
 
 -- the sequence of these settings: version 2.2, and what they don't say as the base has it; with a size of its own all
 -- of a picture is shown

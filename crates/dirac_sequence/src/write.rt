@@ -79,7 +79,7 @@ fn index_of(chroma: Chroma) -> u32
 }
 
 fn is_same(a: (u64, u64), b: (u64, u64)) -> bool
-    ensures { result ≡ written.is_same a b }
+    ensures { result ≡ written.is_same_pair a b }
 {
     a.0 == b.0 && a.1 == b.1
 }

@@ -10,7 +10,7 @@ use Rattle.dirac_common.specs.declared.faults.Refusal.{Refusal}
 use Rattle.dirac_common.specs.declared.formats.Chroma.{Chroma}
 use Rattle.dirac_common.specs.declared.formats.Chroma.TheVariants.{C444, C422, C420}
 use Rattle.dirac_bits.specs.Cursor.{start}
-use Rattle.dirac_bits.specs.Syntax.{Syntax, done, refuse, ◌>>=◌, uint, here, field, between, custom, read}
+use Rattle.dirac_bits.specs.Syntax.{Syntax, done, refuse, ◌>>=◌, uint, here, number_field, between, custom, read}
 use Rattle.dirac_bits.specs.Answers.{value_of}
 use Rattle.dirac_sequence_header.specs.declared.sequence.Sequence.{Sequence}
 use Rattle.dirac_sequence_header.specs.declared.sequence.SignalRange.{SignalRange}
@@ -18,20 +18,20 @@ use Rattle.dirac_common.specs.Ratios.{ratio_across, ratio_down}
 use Rattle.dirac_sequence_header.specs.Tables.{preset, rate_of, aspect_of, range_of}
 
 -- versions, profile and level, and the base video format, with which the other values begin
-unfoldable pub base_format : Syntax Sequence
-base_format = do
-  major ← field Version (between 0 2)
+unfoldable pub base_format_fields : Syntax Sequence
+base_format_fields = do
+  major ← number_field Version (between 0 2)
   minor ← uint
   profile ← uint
   level ← uint
-  base ← field Preset (between 0 LAST_BASE)
+  base ← number_field Preset (between 0 LAST_BASE)
   done (record (preset base) { major = major; minor = minor; profile = profile; level = level })
 
 -- the frame size in luma samples
 unfoldable pub size : ℕ × ℕ → Syntax (ℕ × ℕ)
 size default = custom default (do
-  width ← field Size (between 1 LARGEST_WIDTH)
-  height ← field Size (between 1 LARGEST_HEIGHT)
+  width ← number_field Size (between 1 LARGEST_WIDTH)
+  height ← number_field Size (between 1 LARGEST_HEIGHT)
   done (width, height))
 
 -- a chroma format by its index
@@ -41,7 +41,7 @@ chroma_of index = if index == 0 then C444 else if index == 1 then C422 else C420
 -- the chroma format, where the header has its own
 unfoldable pub own_chroma : Chroma → Syntax Chroma
 own_chroma default = custom default (do
-  index ← field ChromaFormat (between 0 2)
+  index ← number_field ChromaFormat (between 0 2)
   done (chroma_of index))
 
 -- chroma has whole samples
@@ -58,7 +58,7 @@ chroma size default = do
 -- the source sampling: whether it is interlaced
 unfoldable pub sampling : Bool → Syntax Bool
 sampling default = custom default (do
-  index ← field Sampling (between 0 1)
+  index ← number_field Sampling (between 0 1)
   done (index == 1))
 
 -- two numbers, as a fraction
@@ -71,7 +71,7 @@ fraction = do
 -- the frame rate
 unfoldable pub rate : ℕ × ℕ → Syntax (ℕ × ℕ)
 rate default = custom default (do
-  index ← field RateIndex (between 0 10)
+  index ← number_field RateIndex (between 0 10)
   if index == 0 then fraction else done (rate_of index))
 
 -- size, chroma format, source sampling and frame rate
@@ -86,7 +86,7 @@ frames s = do
 -- the pixel aspect
 unfoldable pub aspect : ℕ × ℕ → Syntax (ℕ × ℕ)
 aspect default = custom default (do
-  index ← field AspectIndex (between 0 6)
+  index ← number_field AspectIndex (between 0 6)
   if index == 0 then fraction else done (aspect_of index))
 
 -- the clean area: width, height, left and top
@@ -108,7 +108,7 @@ own_range = do
 -- the signal range, where the header has its own: by its index, or in full
 unfoldable pub signal_range : SignalRange → Syntax SignalRange
 signal_range default = custom default (do
-  index ← field SignalIndex (between 0 4)
+  index ← number_field SignalIndex (between 0 4)
   if index == 0 then own_range else done (range_of index))
 
 -- the depth is the least number of bits whose values reach the excursion
@@ -150,7 +150,7 @@ colours = custom tt (do
 -- all that makes a sequence, in groups
 unfoldable pub values : Syntax Sequence
 values = do
-  s ← base_format
+  s ← base_format_fields
   s ← frames s
   samples s
 
@@ -162,7 +162,7 @@ has_whole_fields s = s.height % (2 * ratio_down s.chroma) == 0
 unfoldable pub coding_mode : Sequence → Syntax Sequence
 coding_mode s = do
   at ← here
-  mode ← field Fields (between 0 1)
+  mode ← number_field Fields (between 0 1)
   if mode == 0 then done (record s { fields = false }) else
       if has_whole_fields s then done (record s { fields = true }) else refuse at Size
 

@@ -2,7 +2,7 @@
 
 ghost use Rattle.std.specs.Prelude.{◌≡◌, ◌≤◌, IfOk, IfErr, length};
 ghost use Rattle.dirac_bits.specs.Syntax.{read};
-ghost use Rattle.dirac_bits.specs.Answers.{Reads};
+ghost use Rattle.dirac_bits.specs.Answers.{ReadsSeenBy};
 ghost use Rattle.dirac_sequence_header.specs.Grammar as grammar;
 ghost use Rattle.dirac_sequence_header.specs.Lawful.{HasFrames};
 
@@ -15,7 +15,7 @@ use dirac_common::{Cause, Refusal};
 #[tactic(auto, unfolding(crate::specs::Grammar::samples), using(dirac_bits::specs::Then::read_then))]
 pub fn read_samples(r: &mut BitReader<'_>, s: Sequence) -> Result<Sequence, Refusal>
     requires { HasFrames s }
-    ensures value { Reads (λ s. s) result r.new (read (grammar.samples s) r.old) }
+    ensures value { ReadsSeenBy (λ s. s) result r.new (read (grammar.samples s) r.old) }
     ensures place_inside { IfErr result (λ e. e.at ≤ length r.old.bytes) }
     ensures kept { r.new.bytes ≡ r.old.bytes }
     ensures lawful { IfOk result (λ s. HasFrames s) }
@@ -38,7 +38,7 @@ pub fn read_samples(r: &mut BitReader<'_>, s: Sequence) -> Result<Sequence, Refu
 
 #[tactic(auto, unfolding(crate::specs::Grammar::aspect), using(dirac_bits::specs::Then::read_then))]
 fn read_aspect(r: &mut BitReader<'_>, default: (u64, u64)) -> Result<(u64, u64), Refusal>
-    ensures value { Reads (λ x. x) result r.new (read (grammar.aspect default) r.old) }
+    ensures value { ReadsSeenBy (λ x. x) result r.new (read (grammar.aspect default) r.old) }
     ensures place_inside { IfErr result (λ e. e.at ≤ length r.old.bytes) }
     ensures kept { r.new.bytes ≡ r.old.bytes }
 {
@@ -58,7 +58,7 @@ fn read_clean_area(
     r: &mut BitReader<'_>,
     default: (u64, u64, u64, u64),
 ) -> Result<(u64, u64, u64, u64), Refusal>
-    ensures value { Reads (λ x. x) result r.new (read (grammar.clean_area default) r.old) }
+    ensures value { ReadsSeenBy (λ x. x) result r.new (read (grammar.clean_area default) r.old) }
     ensures place_inside { IfErr result (λ e. e.at ≤ length r.old.bytes) }
     ensures kept { r.new.bytes ≡ r.old.bytes }
 {
@@ -74,7 +74,7 @@ fn read_clean_area(
 
 #[tactic(auto, unfolding(crate::specs::Grammar::signal), using(dirac_bits::specs::Then::read_then))]
 fn read_signal(r: &mut BitReader<'_>, default: SignalRange) -> Result<SignalRange, Refusal>
-    ensures value { Reads (λ x. x) result r.new (read (grammar.signal default) r.old) }
+    ensures value { ReadsSeenBy (λ x. x) result r.new (read (grammar.signal default) r.old) }
     ensures place_inside { IfErr result (λ e. e.at ≤ length r.old.bytes) }
     ensures kept { r.new.bytes ≡ r.old.bytes }
 {
@@ -99,7 +99,7 @@ fn is_depth_8(excursion: u64) -> bool
 
 #[tactic(auto, unfolding(crate::specs::Grammar::signal_range), using(dirac_bits::specs::Then::read_then))]
 fn read_signal_range(r: &mut BitReader<'_>, default: SignalRange) -> Result<SignalRange, Refusal>
-    ensures value { Reads (λ x. x) result r.new (read (grammar.signal_range default) r.old) }
+    ensures value { ReadsSeenBy (λ x. x) result r.new (read (grammar.signal_range default) r.old) }
     ensures place_inside { IfErr result (λ e. e.at ≤ length r.old.bytes) }
     ensures kept { r.new.bytes ≡ r.old.bytes }
 {
@@ -116,7 +116,7 @@ fn read_signal_range(r: &mut BitReader<'_>, default: SignalRange) -> Result<Sign
 
 #[tactic(auto, unfolding(crate::specs::Grammar::own_range), using(dirac_bits::specs::Then::read_then))]
 fn read_own_range(r: &mut BitReader<'_>) -> Result<SignalRange, Refusal>
-    ensures value { Reads (λ x. x) result r.new (read grammar.own_range r.old) }
+    ensures value { ReadsSeenBy (λ x. x) result r.new (read grammar.own_range r.old) }
     ensures place_inside { IfErr result (λ e. e.at ≤ length r.old.bytes) }
     ensures kept { r.new.bytes ≡ r.old.bytes }
 {
@@ -127,7 +127,7 @@ fn read_own_range(r: &mut BitReader<'_>) -> Result<SignalRange, Refusal>
 
 #[tactic(auto, unfolding(crate::specs::Grammar::colours), using(dirac_bits::specs::Then::read_then))]
 pub fn read_colours(r: &mut BitReader<'_>) -> Result<(), Refusal>
-    ensures value { Reads (λ x. x) result r.new (read grammar.colours r.old) }
+    ensures value { ReadsSeenBy (λ x. x) result r.new (read grammar.colours r.old) }
     ensures place_inside { IfErr result (λ e. e.at ≤ length r.old.bytes) }
     ensures kept { r.new.bytes ≡ r.old.bytes }
 {
@@ -145,7 +145,7 @@ pub fn read_colours(r: &mut BitReader<'_>) -> Result<(), Refusal>
 /// Primaries, matrix and transfer function.
 #[tactic(auto, unfolding(crate::specs::Grammar::colour_parts), using(dirac_bits::specs::Then::read_then))]
 fn read_colour_parts(r: &mut BitReader<'_>) -> Result<(), Refusal>
-    ensures value { Reads (λ x. x) result r.new (read grammar.colour_parts r.old) }
+    ensures value { ReadsSeenBy (λ x. x) result r.new (read grammar.colour_parts r.old) }
     ensures place_inside { IfErr result (λ e. e.at ≤ length r.old.bytes) }
     ensures kept { r.new.bytes ≡ r.old.bytes }
 {
@@ -156,7 +156,7 @@ fn read_colour_parts(r: &mut BitReader<'_>) -> Result<(), Refusal>
 
 #[tactic(auto, unfolding(crate::specs::Grammar::colour_part))]
 fn read_colour_part(r: &mut BitReader<'_>) -> Result<(), Refusal>
-    ensures value { Reads (λ x. x) result r.new (read grammar.colour_part r.old) }
+    ensures value { ReadsSeenBy (λ x. x) result r.new (read grammar.colour_part r.old) }
     ensures place_inside { IfErr result (λ e. e.at ≤ length r.old.bytes) }
     ensures kept { r.new.bytes ≡ r.old.bytes }
 {

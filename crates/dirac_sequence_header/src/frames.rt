@@ -2,7 +2,7 @@
 
 ghost use Rattle.std.specs.Prelude.{◌≡◌, ◌≤◌, ◌%◌, ◌==◌, IfOk, IfErr, length};
 ghost use Rattle.dirac_bits.specs.Syntax.{read};
-ghost use Rattle.dirac_bits.specs.Answers.{Reads};
+ghost use Rattle.dirac_bits.specs.Answers.{ReadsSeenBy};
 ghost use Rattle.dirac_sequence_header.specs.Grammar as grammar;
 ghost use Rattle.dirac_common.specs.Ratios as ratios;
 ghost use Rattle.dirac_sequence_header.specs.Lawful.{IsSize, HasFrames};
@@ -17,7 +17,7 @@ use dirac_common::{
 #[tactic(auto, unfolding(crate::specs::Grammar::frames), using(dirac_bits::specs::Then::read_then))]
 pub fn read_frames(r: &mut BitReader<'_>, s: Sequence) -> Result<Sequence, Refusal>
     requires { IsSize s.width s.height }
-    ensures value { Reads (λ s. s) result r.new (read (grammar.frames s) r.old) }
+    ensures value { ReadsSeenBy (λ s. s) result r.new (read (grammar.frames s) r.old) }
     ensures place_inside { IfErr result (λ e. e.at ≤ length r.old.bytes) }
     ensures kept { r.new.bytes ≡ r.old.bytes }
     ensures lawful { IfOk result (λ s. HasFrames s) }
@@ -39,7 +39,7 @@ pub fn read_frames(r: &mut BitReader<'_>, s: Sequence) -> Result<Sequence, Refus
 #[tactic(auto, unfolding(crate::specs::Grammar::size), using(dirac_bits::specs::Then::read_then))]
 fn read_size(r: &mut BitReader<'_>, default: (u32, u32)) -> Result<(u32, u32), Refusal>
     requires { IsSize default.0 default.1 }
-    ensures value { Reads (λ x. x) result r.new (read (grammar.size default) r.old) }
+    ensures value { ReadsSeenBy (λ x. x) result r.new (read (grammar.size default) r.old) }
     ensures place_inside { IfErr result (λ e. e.at ≤ length r.old.bytes) }
     ensures kept { r.new.bytes ≡ r.old.bytes }
     ensures size { IfOk result (λ x. IsSize x.0 x.1) }
@@ -54,7 +54,7 @@ fn read_size(r: &mut BitReader<'_>, default: (u32, u32)) -> Result<(u32, u32), R
 
 #[tactic(auto, unfolding(crate::specs::Grammar::chroma), using(dirac_bits::specs::Then::read_then))]
 fn read_chroma(r: &mut BitReader<'_>, size: (u32, u32), default: Chroma) -> Result<Chroma, Refusal>
-    ensures value { Reads (λ c. c) result r.new (read (grammar.chroma size default) r.old) }
+    ensures value { ReadsSeenBy (λ c. c) result r.new (read (grammar.chroma size default) r.old) }
     ensures place_inside { IfErr result (λ e. e.at ≤ length r.old.bytes) }
     ensures kept { r.new.bytes ≡ r.old.bytes }
     ensures whole_across { IfOk result (λ c. size.0 % ratios.ratio_across c ≡ 0) }
@@ -74,7 +74,7 @@ fn read_chroma(r: &mut BitReader<'_>, size: (u32, u32), default: Chroma) -> Resu
 
 #[tactic(auto, unfolding(crate::specs::Grammar::own_chroma), using(dirac_bits::specs::Then::read_then))]
 fn read_own_chroma(r: &mut BitReader<'_>, default: Chroma) -> Result<Chroma, Refusal>
-    ensures value { Reads (λ c. c) result r.new (read (grammar.own_chroma default) r.old) }
+    ensures value { ReadsSeenBy (λ c. c) result r.new (read (grammar.own_chroma default) r.old) }
     ensures place_inside { IfErr result (λ e. e.at ≤ length r.old.bytes) }
     ensures kept { r.new.bytes ≡ r.old.bytes }
 {
@@ -90,7 +90,7 @@ fn read_own_chroma(r: &mut BitReader<'_>, default: Chroma) -> Result<Chroma, Ref
 
 #[tactic(auto, unfolding(crate::specs::Grammar::sampling), using(dirac_bits::specs::Then::read_then))]
 fn read_sampling(r: &mut BitReader<'_>, default: bool) -> Result<bool, Refusal>
-    ensures value { Reads (λ b. b) result r.new (read (grammar.sampling default) r.old) }
+    ensures value { ReadsSeenBy (λ b. b) result r.new (read (grammar.sampling default) r.old) }
     ensures place_inside { IfErr result (λ e. e.at ≤ length r.old.bytes) }
     ensures kept { r.new.bytes ≡ r.old.bytes }
 {
@@ -103,7 +103,7 @@ fn read_sampling(r: &mut BitReader<'_>, default: bool) -> Result<bool, Refusal>
 
 #[tactic(auto, unfolding(crate::specs::Grammar::rate), using(dirac_bits::specs::Then::read_then))]
 fn read_rate(r: &mut BitReader<'_>, default: (u64, u64)) -> Result<(u64, u64), Refusal>
-    ensures value { Reads (λ x. x) result r.new (read (grammar.rate default) r.old) }
+    ensures value { ReadsSeenBy (λ x. x) result r.new (read (grammar.rate default) r.old) }
     ensures place_inside { IfErr result (λ e. e.at ≤ length r.old.bytes) }
     ensures kept { r.new.bytes ≡ r.old.bytes }
 {
@@ -121,7 +121,7 @@ fn read_rate(r: &mut BitReader<'_>, default: (u64, u64)) -> Result<(u64, u64), R
 /// Two numbers, one after the other.
 #[tactic(auto, unfolding(crate::specs::Grammar::fraction))]
 pub fn read_fraction(r: &mut BitReader<'_>) -> Result<(u64, u64), Refusal>
-    ensures value { Reads (λ x. x) result r.new (read grammar.fraction r.old) }
+    ensures value { ReadsSeenBy (λ x. x) result r.new (read grammar.fraction r.old) }
     ensures place_inside { IfErr result (λ e. e.at ≤ length r.old.bytes) }
     ensures kept { r.new.bytes ≡ r.old.bytes }
 {

@@ -2,7 +2,7 @@
 
 ghost use Rattle.std.specs.Prelude.{◌≡◌, ◌≤◌, IfOk, IfErr, Ok, length};
 ghost use Rattle.dirac_bits.specs.Syntax.{read};
-ghost use Rattle.dirac_bits.specs.Answers.{Gives, Reads};
+ghost use Rattle.dirac_bits.specs.Answers.{GivesSeenBy, ReadsSeenBy};
 ghost use Rattle.dirac_bits.specs.Laws.{StartsWith};
 ghost use Rattle.dirac_sequence_header.specs.declared.sequence.Sequence.{Sequence as TheSequence};
 ghost use Rattle.dirac_sequence_header.specs.Grammar as grammar;
@@ -23,7 +23,7 @@ use dirac_common::{Cause, Refusal, ratio_down};
 /// the chroma ratios is refused at the flag of the chroma format, a depth other than 8 at the flag of the signal range,
 /// a height that has no two fields with whole chroma samples at the picture coding mode, where that is fields.
 pub fn read_sequence(payload: &[u8]) -> Result<Sequence, Refusal>
-    ensures value { Gives (λ s. s) result (grammar.sequence_read payload.now) }
+    ensures value { GivesSeenBy (λ s. s) result (grammar.sequence_read payload.now) }
     // What is answered is spelled by the payload's first bits.
     ensures spelled { IfOk result (λ s. StartsWith grammar.sequence s payload.now) }
     // What its first bits spell is answered.
@@ -37,7 +37,7 @@ pub fn read_sequence(payload: &[u8]) -> Result<Sequence, Refusal>
 
 #[tactic(auto, unfolding(crate::specs::Grammar::sequence), using(dirac_bits::specs::Then::read_then))]
 fn read_header(r: &mut BitReader<'_>) -> Result<Sequence, Refusal>
-    ensures value { Reads (λ s. s) result r.new (read grammar.sequence r.old) }
+    ensures value { ReadsSeenBy (λ s. s) result r.new (read grammar.sequence r.old) }
     ensures place_inside { IfErr result (λ e. e.at ≤ length r.old.bytes) }
     ensures lawful { IfOk result (λ s. IsSequence s) }
 {
@@ -49,7 +49,7 @@ fn read_header(r: &mut BitReader<'_>) -> Result<Sequence, Refusal>
 #[tactic(auto, unfolding(crate::specs::Grammar::coding_mode), using(dirac_bits::specs::Then::read_then))]
 fn read_coding_mode(r: &mut BitReader<'_>, s: Sequence) -> Result<Sequence, Refusal>
     requires { HasFrames s }
-    ensures value { Reads (λ s. s) result r.new (read (grammar.coding_mode s) r.old) }
+    ensures value { ReadsSeenBy (λ s. s) result r.new (read (grammar.coding_mode s) r.old) }
     ensures place_inside { IfErr result (λ e. e.at ≤ length r.old.bytes) }
     ensures lawful { IfOk result (λ s. IsSequence s) }
 {
@@ -70,7 +70,7 @@ fn read_coding_mode(r: &mut BitReader<'_>, s: Sequence) -> Result<Sequence, Refu
 
 #[tactic(auto, unfolding(crate::specs::Grammar::values), using(dirac_bits::specs::Then::read_then))]
 fn read_values(r: &mut BitReader<'_>) -> Result<Sequence, Refusal>
-    ensures value { Reads (λ s. s) result r.new (read grammar.values r.old) }
+    ensures value { ReadsSeenBy (λ s. s) result r.new (read grammar.values r.old) }
     ensures place_inside { IfErr result (λ e. e.at ≤ length r.old.bytes) }
     ensures kept { r.new.bytes ≡ r.old.bytes }
     ensures lawful { IfOk result (λ s. HasFrames s) }
@@ -80,9 +80,9 @@ fn read_values(r: &mut BitReader<'_>) -> Result<Sequence, Refusal>
     read_samples(r, s)
 }
 
-#[tactic(auto, unfolding(crate::specs::Grammar::base_format), using(dirac_bits::specs::Then::read_then))]
+#[tactic(auto, unfolding(crate::specs::Grammar::base_format_fields), using(dirac_bits::specs::Then::read_then))]
 fn read_base_format(r: &mut BitReader<'_>) -> Result<Sequence, Refusal>
-    ensures value { Reads (λ s. s) result r.new (read grammar.base_format r.old) }
+    ensures value { ReadsSeenBy (λ s. s) result r.new (read grammar.base_format_fields r.old) }
     ensures place_inside { IfErr result (λ e. e.at ≤ length r.old.bytes) }
     ensures kept { r.new.bytes ≡ r.old.bytes }
     ensures size { IfOk result (λ s. IsSize s.width s.height) }

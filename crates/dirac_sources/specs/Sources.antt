@@ -43,16 +43,16 @@ picture_from t number bytes =
     picture_in t.width (picture_height t) (chroma_width (sequence_of t)) (chroma_height (sequence_of t)) number bytes
 
 -- a plane of this size, its samples from -128 to 127
-pub record IsPlane (width height : ℕ) (t : Table) : Type 0 where
+pub record IsSourcePlane (width height : ℕ) (t : Table) : Type 0 where
   pub across : t.width ≡ width
   pub down : t.height ≡ height
   pub samples : AreSamples t.values
 
 -- a picture that can be coded with these settings
 pub record IsSource (t : Settings) (p : Picture) : Type 0 where
-  pub y : IsPlane t.width (picture_height t) p.y
-  pub u : IsPlane (chroma_width (sequence_of t)) (chroma_height (sequence_of t)) p.u
-  pub v : IsPlane (chroma_width (sequence_of t)) (chroma_height (sequence_of t)) p.v
+  pub y : IsSourcePlane t.width (picture_height t) p.y
+  pub u : IsSourcePlane (chroma_width (sequence_of t)) (chroma_height (sequence_of t)) p.u
+  pub v : IsSourcePlane (chroma_width (sequence_of t)) (chroma_height (sequence_of t)) p.v
 
 -- how many whole raw pictures these bytes are, and how many bytes are left over
 abbrev pub whole_pictures : Settings → List ℕ → ℕ

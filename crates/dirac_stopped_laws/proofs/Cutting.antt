@@ -7,7 +7,7 @@ use Rattle.dirac_common.specs.declared.faults.Cause.TheVariants.{MissingEnd}
 use Rattle.dirac_common.specs.declared.faults.Fault.{Fault}
 use Rattle.dirac_types.specs.declared.settings.Settings.{Settings}
 use Rattle.dirac_units.specs.declared.unit_place.UnitPlace.{UnitPlace}
-use Rattle.dirac_units.specs.Cut.{UnitText, IsCut, after, start}
+use Rattle.dirac_units.specs.Cut.{UnitText, IsCut, after, first_unit_place}
 use Rattle.dirac_units.specs.Info.{IsLawful, span_of}
 use Rattle.dirac_units.specs.Writing.{IsReadAsWritten, info_bytes, info_for, unit}
 use Rattle.dirac_sequence.specs.Written.{sequence_payload}
@@ -102,10 +102,10 @@ cut_from written t (n ∷ ms) m previous place unclosed small all =
     (λ next closed. cut_from written t ms m (picture_length n) next closed all.0.short all.1)))
 
 -- from the start
-from_start : (bytes : List ℕ) (texts : List UnitText) → let f : Fault = record { unit = length texts; at = length bytes; cause = MissingEnd } in missing start bytes texts ≡ f
+from_start : (bytes : List ℕ) (texts : List UnitText) → let f : Fault = record { unit = length texts; at = length bytes; cause = MissingEnd } in missing first_unit_place bytes texts ≡ f
 from_start bytes texts = fault_same (0 + length texts) (length texts) (0 + length bytes) (length bytes) (omega arith) (omega arith)
 
 pub stopped_cut : IsReadAsWritten → StoppedStreamsAreCut
 stopped_cut written t ms m all =
-    subst (λ (f : Fault). IsCut start (stream_before t ms m) (texts_before t ms m) (Some f)) (from_start (stream_before t ms m) (texts_before t ms m))
-    (cut_from written t ms m 0 start refl (omega arith) all)
+    subst (λ (f : Fault). IsCut first_unit_place (stream_before t ms m) (texts_before t ms m) (Some f)) (from_start (stream_before t ms m) (texts_before t ms m))
+    (cut_from written t ms m 0 first_unit_place refl (omega arith) all)

@@ -14,7 +14,7 @@ use Rattle.dirac_plan.specs.Plan.{plan}
 use Rattle.dirac_plan.specs.declared.planned.Planned.{Planned}
 use Rattle.dirac_plan_laws.specs.Headers.{IsPlanned}
 use Rattle.dirac_plan_laws.specs.Plans.{BeginsPlan, PlansCanBeCoded}
-use Rattle.dirac_plan_laws.specs.References.{AreFound}
+use Rattle.dirac_plan_laws.specs.References.{ReferencesAreFound}
 use Rattle.dirac_sources.specs.Sources.{chroma_bytes, luma_bytes, picture_from, pictures_in, raw_length, sample_of, sources, whole_pictures}
 use Rattle.dirac_sources.proofs.RawBytes.{below_drop, below_take}
 use Rattle.dirac_encode_laws.specs.Coded.{IsSource}
@@ -77,7 +77,7 @@ made_if t refs m ms false e is more = tt
 
 all_made : JobsAreReadUnder → (f : IndexRule) → GivesIndices f → (t : Settings) (pictures refs : List Picture) (qs : List Planned) → IsAccepted t → AllByRecursion (IsSource t) pictures → AllByRecursion (IsSource t) refs
     → AllByRecursion (λ (q : Planned). q.number < length pictures) qs → AllByRecursion IsPlanned qs
-    → AreFound refs qs (map shown_of (coded_under f t refs (map (job_of pictures) qs)))
+    → ReferencesAreFound refs qs (map shown_of (coded_under f t refs (map (job_of pictures) qs)))
     → AreMade t refs (before_long t (coded_under f t refs (map (job_of pictures) qs)))
 unfolding coded_under
 all_made law f gives t pictures refs [] accepted sourced listed below codes found = tt

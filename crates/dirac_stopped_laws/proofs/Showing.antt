@@ -6,7 +6,7 @@ use Rattle.dirac_common.specs.declared.faults.Refusal.{Refusal}
 use Rattle.dirac_common.specs.declared.picture.Picture.{Picture}
 use Rattle.dirac_types.specs.declared.settings.Settings.{Settings}
 use Rattle.dirac_units.specs.declared.unit_place.UnitPlace.{UnitPlace}
-use Rattle.dirac_units.specs.Cut.{UnitText, after, start}
+use Rattle.dirac_units.specs.Cut.{UnitText, after, first_unit_place}
 use Rattle.dirac_units.specs.Writing.{IsReadAsWritten}
 use Rattle.dirac_sequence_header.specs.Grammar.{sequence_read}
 use Rattle.dirac_sequence.specs.Written.{sequence_of, sequence_payload}
@@ -14,14 +14,14 @@ use Rattle.dirac_picture.specs.declared.coded.CodedPicture.{CodedPicture}
 use Rattle.dirac_picture.specs.Grammar.{is_intra, picture_read}
 use Rattle.dirac_plan_laws.specs.Headers.{IsPictureCode}
 use Rattle.dirac_refs.specs.declared.waiting.Waiting.{Waiting}
-use Rattle.dirac_refs.specs.Delivery.{delivered, flush, flushed, key_of}
+use Rattle.dirac_refs.specs.Delivery.{delivered, in_delivery_order, flushed, key_of}
 use Rattle.dirac_refs.specs.References.{committed}
 use Rattle.dirac_content.specs.declared.opened.Opened.{Opened}
 use Rattle.dirac_content.specs.Content.{rebuilt}
 use Rattle.dirac_content.specs.Sequences.{flushed_behind}
 use Rattle.dirac_content.specs.Shown.{Outcome, follows, outcome, with_front}
-use Rattle.dirac_content.specs.StreamState.{StreamState, StreamStep, as_reference, begun, content, first_or, header_step, made, opening, passed, picture_step, shows, staying, unit_step}
-use Rattle.dirac_encode_laws.specs.Coding.{Made, pushed, refs_after, waiting_of}
+use Rattle.dirac_content.specs.StreamState.{StreamState, StreamStep, as_reference, stream_begun, content, first_or, header_step, shown_or_refused, opening, passed, picture_step, shows, staying, unit_step}
+use Rattle.dirac_encode_laws.specs.Coding.{Made, keyed_reconstructions, refs_after, waiting_of}
 use Rattle.dirac_encode_laws.specs.Laws.{AreMade, Begins, IsMade}
 use Rattle.dirac_encode_laws.specs.Stream.{header_text, header_texts, last_length, picture_length, picture_text}
 use Rattle.dirac_encode_laws.proofs.Headers.{header_read}
@@ -46,9 +46,9 @@ repeats t state e =
     let answer : Bool → Result StreamStep Refusal = λ same. if same then Ok (staying state) else Err (record { at = 0; cause = SequenceChanged }) in
     ap (λ o. header_step state o (sequence_payload t)) e ∙ ap answer (same_header (sequence_payload t))
 
-opens : (t : Settings) → sequence_read (sequence_payload t) ≡ Ok (sequence_of t) → unit_step begun 0x00 (sequence_payload t) ≡ Ok (staying (record begun { opened = Some (opened_by t); first = None }))
+opens : (t : Settings) → sequence_read (sequence_payload t) ≡ Ok (sequence_of t) → unit_step stream_begun 0x00 (sequence_payload t) ≡ Ok (staying (record stream_begun { opened = Some (opened_by t); first = None }))
 unfolding unit_step opened_by
-opens t read = ap (opening begun (sequence_payload t)) read
+opens t read = ap (opening stream_begun (sequence_payload t)) read
 
 adds : (t : Settings) (code : ℕ) (payload : List ℕ) (coded : CodedPicture) (state : StreamState) → state.opened ≡ Some (opened_by t) → IsPictureCode code
     → picture_read code (sequence_of t) state.list payload ≡ Ok coded → unit_step state code payload ≡ Ok (shows state coded (rebuilt (sequence_of t) state.list coded))
@@ -56,7 +56,7 @@ unfolding unit_step opened_by
 adds t code payload coded state e is read =
     ap (λ (b : Bool). if b then content state code payload else Ok (passed state code)) is.read
     ∙ ap (λ (b : Bool). if b then header_step state state.opened payload else picture_step state state.opened code payload) is.other
-    ∙ ap (λ o. picture_step state o code payload) e ∙ ap (made state (opened_by t)) read
+    ∙ ap (λ o. picture_step state o code payload) e ∙ ap (shown_or_refused state (opened_by t)) read
 
 outcome_more : (state : StreamState) (unit_place : UnitPlace) (unit : UnitText) (units : List UnitText) (end : Option Fault) (m : StreamStep) → unit_step state unit.info.code unit.payload ≡ Ok m
     → outcome state unit_place (unit ∷ units) end ≡ with_front m.gone (outcome m.state (after unit_place unit.info) units end)
@@ -129,20 +129,20 @@ shows_one end t m refs waiting rest previous unit_place state units g first is m
     }
 
 shows_from : (end : Option Fault) (t : Settings) (ms : List Made) (x : Made) (refs : List Picture) (waiting : List Waiting) (previous : ℕ) (unit_place : UnitPlace) (state : StreamState) → Going t refs waiting state → state.first ≡ Some 0 → AreMade t refs ms
-    → ShowsTo end (outcome state unit_place (texts_of t previous ms ++ header_texts t x (last_length previous ms)) end) (flushed_behind waiting (pushed ms))
+    → ShowsTo end (outcome state unit_place (texts_of t previous ms ++ header_texts t x (last_length previous ms)) end) (flushed_behind waiting (keyed_reconstructions ms))
 shows_from end t [] x refs waiting previous unit_place state g first all = shows_last end t previous (is_intra x.coded.code) waiting unit_place state g.opened g.waits
 shows_from end t (m ∷ ms) x refs waiting previous unit_place state g first all =
     let units = texts_of t (picture_length m) ms ++ header_texts t x (last_length (picture_length m) ms) in
     let now = delivered (waiting ++ waiting_of m ∷ []) in
-    subst (λ (us : List UnitText). ShowsTo end (outcome state unit_place us end) (flushed_behind waiting (pushed (m ∷ ms)))) (sym (append_assoc (header_texts t m previous) (picture_text t m previous ∷ texts_of t (picture_length m) ms) (header_texts t x (last_length (picture_length m) ms))))
-    (shows_header end t previous (is_intra m.coded.code) unit_place state (picture_text t m previous ∷ units) (flushed_behind waiting (pushed (m ∷ ms))) g.opened
-    (λ next. shows_one end t m refs waiting (pushed ms) previous next state units g (ap (λ o. first_or o m.shown.number) first) all.0
+    subst (λ (us : List UnitText). ShowsTo end (outcome state unit_place us end) (flushed_behind waiting (keyed_reconstructions (m ∷ ms)))) (sym (append_assoc (header_texts t m previous) (picture_text t m previous ∷ texts_of t (picture_length m) ms) (header_texts t x (last_length (picture_length m) ms))))
+    (shows_header end t previous (is_intra m.coded.code) unit_place state (picture_text t m previous ∷ units) (flushed_behind waiting (keyed_reconstructions (m ∷ ms))) g.opened
+    (λ next. shows_one end t m refs waiting (keyed_reconstructions ms) previous next state units g (ap (λ o. first_or o m.shown.number) first) all.0
     (λ next' later g' first'. shows_from end t ms x (refs_after refs m) now.waiting (picture_length m) next' later g' first' all.1)))
 
 -- ---- the whole stream
 
 first_course : Settings → StreamState
-first_course t = record begun { opened = Some (opened_by t); first = None }
+first_course t = record stream_begun { opened = Some (opened_by t); first = None }
 
 first_going : (t : Settings) → Going t [] [] (first_course t)
 unfolding first_course
@@ -150,20 +150,20 @@ first_going t = record { opened = refl; listed = refl; waits = refl }
 
 -- behind the first sequence header
 shows_all : (end : Option Fault) (t : Settings) (pictures : List Picture) (units : List UnitText) → sequence_read (sequence_payload t) ≡ Ok (sequence_of t)
-    → ((next : UnitPlace) → ShowsTo end (outcome (first_course t) next units end) pictures) → ShowsTo end (outcome begun start (header_text t 0 ∷ units) end) pictures
+    → ((next : UnitPlace) → ShowsTo end (outcome (first_course t) next units end) pictures) → ShowsTo end (outcome stream_begun first_unit_place (header_text t 0 ∷ units) end) pictures
 unfolding first_course header_text
 shows_all end t pictures units read more =
-    let rest = more (after start (header_text t 0).info) in
-    let step = outcome_more begun start (header_text t 0) units end (staying (first_course t)) (opens t read) in
+    let rest = more (after first_unit_place (header_text t 0).info) in
+    let step = outcome_more stream_begun first_unit_place (header_text t 0) units end (staying (first_course t)) (opens t read) in
     record { shown = ap (λ (o : Outcome). o.shown) step ∙ rest.shown; last = ap (λ (o : Outcome). o.end) step ∙ rest.last }
 
 -- before the first picture there is at most its sequence header
-shows_none : (end : Option Fault) (t : Settings) (b : Bool) → sequence_read (sequence_payload t) ≡ Ok (sequence_of t) → ShowsTo end (outcome begun start (if b then header_text t 0 ∷ [] else []) end) (flush [])
+shows_none : (end : Option Fault) (t : Settings) (b : Bool) → sequence_read (sequence_payload t) ≡ Ok (sequence_of t) → ShowsTo end (outcome stream_begun first_unit_place (if b then header_text t 0 ∷ [] else []) end) (in_delivery_order [])
 unfolding first_course
-shows_none end t true read = shows_all end t (flush []) [] read (λ next. shows_end end [] next (first_course t) refl)
-shows_none end t false read = shows_end end [] start begun refl
+shows_none end t true read = shows_all end t (in_delivery_order []) [] read (λ next. shows_end end [] next (first_course t) refl)
+shows_none end t false read = shows_end end [] first_unit_place stream_begun refl
 
-shows_stream : (end : Option Fault) (t : Settings) (ms : List Made) (x : Made) → sequence_read (sequence_payload t) ≡ Ok (sequence_of t) → AreMade t [] ms → Begins ms → ShowsTo end (outcome begun start (texts_before t ms x) end) (flush (pushed ms))
+shows_stream : (end : Option Fault) (t : Settings) (ms : List Made) (x : Made) → sequence_read (sequence_payload t) ≡ Ok (sequence_of t) → AreMade t [] ms → Begins ms → ShowsTo end (outcome stream_begun first_unit_place (texts_before t ms x) end) (in_delivery_order (keyed_reconstructions ms))
 unfolding first_course
 shows_stream end t [] x read all begins = shows_none end t (is_intra x.coded.code) read
 shows_stream end t (m ∷ ms) x read all begins =
@@ -171,9 +171,9 @@ shows_stream end t (m ∷ ms) x read all begins =
     let now = delivered ([] ++ waiting_of m ∷ []) in
     let first : first_or None m.shown.number ≡ 0 = ap (λ (p : Picture). p.number) all.0.shows ∙ begins.1 in
     let told : Bool → List UnitText = λ b. ((if b then header_text t 0 ∷ [] else []) ++ picture_text t m 0 ∷ texts_of t (picture_length m) ms) ++ header_texts t x (last_length (picture_length m) ms) in
-    subst (λ (us : List UnitText). ShowsTo end (outcome begun start us end) (flush (pushed (m ∷ ms)))) (ap told (sym begins.0))
-    (shows_all end t (flush (pushed (m ∷ ms))) (picture_text t m 0 ∷ units) read
-    (λ next. shows_one end t m [] [] (pushed ms) 0 next (first_course t) units (first_going t) first all.0
+    subst (λ (us : List UnitText). ShowsTo end (outcome stream_begun first_unit_place us end) (in_delivery_order (keyed_reconstructions (m ∷ ms)))) (ap told (sym begins.0))
+    (shows_all end t (in_delivery_order (keyed_reconstructions (m ∷ ms))) (picture_text t m 0 ∷ units) read
+    (λ next. shows_one end t m [] [] (keyed_reconstructions ms) 0 next (first_course t) units (first_going t) first all.0
     (λ next' later g' first'. shows_from end t ms x (refs_after [] m) now.waiting (picture_length m) next' later g' first' all.1)))
 
 pub stopped_shown : IsReadAsWritten → StoppedStreamsShowTheirPictures
@@ -181,4 +181,4 @@ stopped_shown written t ms m accepted all begins =
     let units = texts_before t ms m in
     let end = Some (end_missing t ms m) in
     let is = shows_stream end t ms m (header_read t accepted) all begins in
-    (outcome begun start units end, record { units = units; end = end; cut = stopped_cut written t ms m (each_unit t [] ms all); same = refl }, is.shown, is.last)
+    (outcome stream_begun first_unit_place units end, record { units = units; end = end; cut = stopped_cut written t ms m (each_unit t [] ms all); same = refl }, is.shown, is.last)

@@ -5,11 +5,11 @@ use Rattle.dirac_common.specs.declared.faults.Cause.TheVariants.{MissingEnd}
 use Rattle.dirac_common.specs.declared.faults.Fault.{Fault}
 use Rattle.dirac_types.specs.declared.settings.Settings.{Settings}
 use Rattle.dirac_types.specs.Settings.{IsAccepted}
-use Rattle.dirac_units.specs.Cut.{UnitText, IsCut, start}
-use Rattle.dirac_refs.specs.Delivery.{flush}
+use Rattle.dirac_units.specs.Cut.{UnitText, IsCut, first_unit_place}
+use Rattle.dirac_refs.specs.Delivery.{in_delivery_order}
 use Rattle.dirac_content.specs.Shown.{IsShown, Outcome}
 use Rattle.dirac_sources.specs.Sources.{sources}
-use Rattle.dirac_encode_laws.specs.Coding.{IndexRule, Made, coding_under, pushed}
+use Rattle.dirac_encode_laws.specs.Coding.{IndexRule, Made, coding_under, keyed_reconstructions}
 use Rattle.dirac_encode_laws.specs.Encoding.{before_long, encoding_under, first_long, stream_before}
 use Rattle.dirac_encode_laws.specs.Laws.{AreMade, Begins, GivesIndices}
 use Rattle.dirac_encode_laws.specs.Stream.{IsUnit, header_texts, last_length, picture_length, picture_text}
@@ -33,12 +33,13 @@ end_missing t ms m =
 abbrev pub StoppedStreamsAreCut : Type 0
 StoppedStreamsAreCut =
     (t : Settings) (ms : List Made) (m : Made) → AllByRecursion IsUnit ms
-    → IsCut start (stream_before t ms m) (texts_before t ms m) (Some (end_missing t ms m))
+    → IsCut first_unit_place (stream_before t ms m) (texts_before t ms m) (Some (end_missing t ms m))
 
 -- these bytes show the pictures in the order of delivery, all that waited among them, up to the missing end unit
 abbrev pub ShowsAllBefore : Settings → List Made → Made → List ℕ → Type 0
 ShowsAllBefore t ms m bytes =
-    (o : Outcome) × IsShown bytes o × (o.shown ≡ flush (pushed ms)) × (o.end ≡ Some (end_missing t ms m))
+    (o : Outcome) × IsShown bytes o × (o.shown ≡ in_delivery_order (keyed_reconstructions ms))
+    × (o.end ≡ Some (end_missing t ms m))
 
 -- so does the stream before a picture
 abbrev pub StoppedStreamsShowTheirPictures : Type 0

@@ -11,8 +11,8 @@ use Rattle.dirac_units.specs.declared.info.ParseInfo.{ParseInfo}
 use Rattle.dirac_units.specs.declared.unit.Unit.{Unit}
 use Rattle.dirac_units.specs.declared.unit_place.UnitPlace.{UnitPlace}
 use Rattle.dirac_units.specs.Info.{span_of}
-use Rattle.dirac_units.specs.Cut.{UnitText, start, after, front_of, IsCut, EachHasACut}
-use Rattle.dirac_units.specs.Progress.{GivesUnit, HoldsWhatFollows, IsFirstUnit, IsPartTaken, Progress, TakesSome}
+use Rattle.dirac_units.specs.Cut.{UnitText, first_unit_place, after, front_of, IsCut, EachHasACut}
+use Rattle.dirac_units.specs.Progress.{GivesUnit, HoldsWhatFollows, IsFirstUnit, IsPartTaken, CuttingProgress, TakesSome}
 use Rattle.dirac_decode.proofs.Passed.{cut_unit}
 use Rattle.dirac_content.proofs.Passing.{text_of}
 use Rattle.dirac_stream_commands.specs.Line.{lines, line_text}
@@ -25,17 +25,17 @@ pub record HasRead (unit_place : UnitPlace) (rest bytes : List ℕ) (out out' : 
   pub parts : bytes ≡ read ++ rest
   pub units : List UnitText
   pub cut : (behind : List ℕ) (more : List UnitText) (end : Option Fault)
-      → IsCut unit_place behind more end → IsCut start (read ++ behind) (units ++ more) end
+      → IsCut unit_place behind more end → IsCut first_unit_place (read ++ behind) (units ++ more) end
   pub text : List ℕ
-  pub told : (more : List UnitText) → lines start (units ++ more) ≡ text ++ lines unit_place more
+  pub told : (more : List UnitText) → lines first_unit_place (units ++ more) ≡ text ++ lines unit_place more
   pub written : Appends out out' text
 
 -- the invariant of the loop over the units
-abbrev pub ReadsSoFar : Progress → Option (List ℕ) → Option (List ℕ) → Option (List ℕ) → Option (List ℕ) → Type 0
+abbrev pub ReadsSoFar : CuttingProgress → Option (List ℕ) → Option (List ℕ) → Option (List ℕ) → Option (List ℕ) → Type 0
 ReadsSoFar units first held out out' =
     IfSome first (λ bytes. (rest : List ℕ) × (prepend_known units.ahead held ≡ Some rest) × HasRead units.unit_place rest bytes out out')
 
-pub begins_reading : (first out : Option (List ℕ)) → IfSome first (λ bytes. (rest : List ℕ) × (prepend_known [] first ≡ Some rest) × HasRead start rest bytes out out)
+pub begins_reading : (first out : Option (List ℕ)) → IfSome first (λ bytes. (rest : List ℕ) × (prepend_known [] first ≡ Some rest) × HasRead first_unit_place rest bytes out out)
 begins_reading None out = tt
 begins_reading (Some bytes) out = (
   bytes,
@@ -63,17 +63,17 @@ one_more_read unit_place info rest bytes out mid out' h is line =
       parts = h.parts ∙ ap (λ l. h.read ++ l) (sym (take-append-drop span rest)) ∙ sym (append_assoc h.read (take span rest) (drop span rest));
       units = h.units ++ unit ∷ [];
       cut = λ behind more end later.
-          subst (λ (l : List ℕ). IsCut start l ((h.units ++ unit ∷ []) ++ more) end) (sym (append_assoc h.read (take span rest) behind))
-          (subst (λ (l : List UnitText). IsCut start (h.read ++ (take span rest ++ behind)) l end) (sym (append_assoc h.units (unit ∷ []) more))
+          subst (λ (l : List ℕ). IsCut first_unit_place l ((h.units ++ unit ∷ []) ++ more) end) (sym (append_assoc h.read (take span rest) behind))
+          (subst (λ (l : List UnitText). IsCut first_unit_place (h.read ++ (take span rest ++ behind)) l end) (sym (append_assoc h.units (unit ∷ []) more))
           (h.cut (take span rest ++ behind) (unit ∷ more) end (cut_unit unit_place (after unit_place info) info rest behind more end is refl later)));
       text = h.text ++ text;
       told = λ more.
-          ap (lines start) (append_assoc h.units (unit ∷ []) more) ∙ h.told (unit ∷ more)
+          ap (lines first_unit_place) (append_assoc h.units (unit ∷ []) more) ∙ h.told (unit ∷ more)
           ∙ sym (append_assoc h.text text (lines (after unit_place info) more));
       written = Appends-trans out mid out' h.text text h.written line;
     }
 
-pub reads_on : (unit : Unit) (old new : Progress) (first held held' out mid out' : Option (List ℕ)) → ReadsSoFar old first held out mid
+pub reads_on : (unit : Unit) (old new : CuttingProgress) (first held held' out mid out' : Option (List ℕ)) → ReadsSoFar old first held out mid
     → GivesUnit false unit old new held held' → Appends mid out' (line_text unit.index unit.at unit.info) → ReadsSoFar new first held' out out'
 reads_on unit old new None held held' out mid out' so_far given line = tt
 reads_on unit old new (Some bytes) held held' out mid out' so_far given line =
@@ -98,7 +98,7 @@ whole_read unit_place end rest bytes held' out out' h part = record {
   listed = subst (Appends out out') (sym (append-nil h.text) ∙ sym (h.told [])) h.written;
 }
 
-pub breaks_listing : (old : Progress) (first held held' out out' : Option (List ℕ)) → ReadsSoFar old first held out out'
+pub breaks_listing : (old : CuttingProgress) (first held held' out out' : Option (List ℕ)) → ReadsSoFar old first held out out'
     → IfSome (prepend_known old.ahead held) (λ bytes. (end : Option Fault) × IsPartTaken old.unit_place end bytes held') → IfSome first (λ bytes. IsReadListed bytes held' out out')
 breaks_listing old None held held' out out' so_far part = tt
 breaks_listing old (Some bytes) held held' out out' so_far part =
@@ -114,7 +114,7 @@ front_of_whole bytes held' out out' w = record {
   units = w.units;
   end = w.end;
   cut = w.cut;
-  listed = (lines start w.units, [], sym (append-nil (lines start w.units)), w.listed);
+  listed = (lines first_unit_place w.units, [], sym (append-nil (lines first_unit_place w.units)), w.listed);
 }
 
 pub front_of_broken : (first held' out out' : Option (List ℕ)) → IfSome first (λ bytes. IsReadListed bytes held' out out') → IfSome first (λ bytes. IsFrontListed bytes held' out out')
@@ -146,7 +146,7 @@ some_read each unit_place part rest bytes held' out out' h takes =
       listed = (h.text, lines unit_place cut.0, h.told cut.0, h.written);
     }
 
-pub stops_reading : EachHasACut → (old : Progress) (first held held' out out' : Option (List ℕ)) → ReadsSoFar old first held out out' → TakesSome old held held' → IfSome first (λ bytes. IsFrontListed bytes held' out out')
+pub stops_reading : EachHasACut → (old : CuttingProgress) (first held held' out out' : Option (List ℕ)) → ReadsSoFar old first held out out' → TakesSome old held held' → IfSome first (λ bytes. IsFrontListed bytes held' out out')
 stops_reading each old None held held' out out' so_far takes = tt
 stops_reading each old (Some bytes) held held' out out' so_far takes =
     some_read each old.unit_place takes.0 so_far.0 bytes held' out out' so_far.2
@@ -178,7 +178,7 @@ line_read each unit_place info rest bytes held' out mid out' h is holds part =
       listed = (h.text ++ part.0, part.1 ++ later, h.told (unit ∷ cut.0) ∙ split, Appends-trans out mid out' h.text part.0 h.written part.3);
     }
 
-pub stops_at_line : EachHasACut → (unit : Unit) (old new : Progress) (first held held' out mid out' : Option (List ℕ)) → ReadsSoFar old first held out mid → GivesUnit false unit old new held held' → HoldsWhatFollows unit old held held'
+pub stops_at_line : EachHasACut → (unit : Unit) (old new : CuttingProgress) (first held held' out mid out' : Option (List ℕ)) → ReadsSoFar old first held out mid → GivesUnit false unit old new held held' → HoldsWhatFollows unit old held held'
     → AppendsFront mid out' (line_text unit.index unit.at unit.info) → IfSome first (λ bytes. IsFrontListed bytes held' out out')
 stops_at_line each unit old new None held held' out mid out' so_far given holds front = tt
 stops_at_line each unit old new (Some bytes) held held' out mid out' so_far given holds front =

@@ -9,19 +9,19 @@ use Rattle.dirac_command_line.specs.declared.ended.Ended.TheVariants as ended
 use Rattle.dirac_stream_commands.specs.Inside.{IsFaultInside}
 
 -- how a run ends that edits a stream
-abbrev pub ended_of : Edited → Ended
-ended_of edited.Done = ended.Done
-ended_of (edited.Fault fault) = ended.Fault fault
-ended_of (edited.NoSuchPoint n) = ended.NoSuchPoint n
-ended_of (edited.OpenCut n) = ended.OpenCut n
-ended_of edited.ReadFault = ended.ReadFault
-ended_of edited.WriteFault = ended.WriteFault
-ended_of edited.NoMemory = ended.NoMemory
+abbrev pub ended_of_edit : Edited → Ended
+ended_of_edit edited.Done = ended.Done
+ended_of_edit (edited.Fault fault) = ended.Fault fault
+ended_of_edit (edited.NoSuchPoint n) = ended.NoSuchPoint n
+ended_of_edit (edited.OpenCut n) = ended.OpenCut n
+ended_of_edit edited.ReadFault = ended.ReadFault
+ended_of_edit edited.WriteFault = ended.WriteFault
+ended_of_edit edited.NoMemory = ended.NoMemory
 
 -- `cut`: from point `from` up to point `to`, of the bytes held; what was written of it shows its pictures
 pub record Cuts (from : ℕ) (to : Option ℕ) (held held' out out' : Option (List ℕ)) (answer : Ended) : Type 0 where
   pub how : Edited
-  pub ends : answer ≡ ended_of how
+  pub ends : answer ≡ ended_of_edit how
   pub cut : IfSome held (λ bytes. IsCutBy bytes from to how out out')
   pub shows : IfSome held (λ bytes. how ≡ edited.Done → ShowsPart bytes from to)
   pub whole : answer ≡ ended.Done → IsAtEnd held'

@@ -15,14 +15,14 @@ tally_line t =
     codes "pictures=" ++ (decimal t.pictures ++ (codes " references=" ++ (decimal t.references ++ codes "\n")))
 
 -- what both sinks took: all raw pictures, and behind them the line of the tally
-abbrev pub WritesAll : Outcome → Option (List ℕ) → Option (List ℕ) → Option (List ℕ) → Option (List ℕ) → Type 0
-WritesAll o out out' side side' = Appends out out' (raws o.shown) × Appends side side' (tally_line (tally_of o))
+abbrev pub WritesAllDecoded : Outcome → Option (List ℕ) → Option (List ℕ) → Option (List ℕ) → Option (List ℕ) → Type 0
+WritesAllDecoded o out out' side side' = Appends out out' (raws o.shown) × Appends side side' (tally_line (tally_of o))
 
 -- what an answer says of what a stream shows, and of what both sinks took
 abbrev pub AnswersDecode : Ended → Outcome → Option (List ℕ) → Option (List ℕ) → Option (List ℕ) → Option (List ℕ)
     → Type 0
-AnswersDecode ended.Done o out out' side side' = (o.end ≡ None) × WritesAll o out out' side side'
-AnswersDecode (ended.Fault fault) o out out' side side' = (o.end ≡ Some fault) × WritesAll o out out' side side'
+AnswersDecode ended.Done o out out' side side' = (o.end ≡ None) × WritesAllDecoded o out out' side side'
+AnswersDecode (ended.Fault fault) o out out' side side' = (o.end ≡ Some fault) × WritesAllDecoded o out out' side side'
 AnswersDecode ended.ReadFault o out out' side side' = AppendsFront out out' (raws o.shown) × Keeps side side'
 AnswersDecode ended.WriteFault o out out' side side' = AppendsFront out out' (raws o.shown) × Keeps side side'
 AnswersDecode ended.SideFault o out out' side side' =

@@ -3,7 +3,7 @@ use Rattle.std.specs.Prelude.{◌≡◌, ℕ, List, ◌++◌, Option, None, Some
 use Rattle.std.specs.Io.KnownBytes.{Appends}
 use Rattle.dirac_io.specs.Writing.{AppendsFront}
 use Rattle.dirac_common.specs.declared.faults.Fault.{Fault}
-use Rattle.dirac_units.specs.Cut.{UnitText, start, IsCut}
+use Rattle.dirac_units.specs.Cut.{UnitText, first_unit_place, IsCut}
 use Rattle.dirac_command_line.specs.declared.ended.Ended.{Ended}
 use Rattle.dirac_command_line.specs.declared.ended.Ended.TheVariants as ended
 use Rattle.dirac_stream_commands.specs.Line.{lines}
@@ -20,8 +20,8 @@ AnswersList _ end text out out' = ⊥
 -- the lines of the one cut of the bytes, and its end or fault
 abbrev pub IsListed : List ℕ → Ended → Option (List ℕ) → Option (List ℕ) → Type 0
 IsListed bytes answer out out' =
-    (units : List UnitText) × (end : Option Fault) × IsCut start bytes units end
-    × AnswersList answer end (lines start units) out out'
+    (units : List UnitText) × (end : Option Fault) × IsCut first_unit_place bytes units end
+    × AnswersList answer end (lines first_unit_place units) out out'
 
 -- of these bytes some were read and just the others are held, and of the lines of the units in those read a sink took a
 -- front
@@ -32,8 +32,8 @@ pub record IsFrontListed (bytes : List ℕ) (held' out out' : Option (List ℕ))
   pub holds : held' ≡ Some rest
   pub units : List UnitText
   pub end : Option Fault
-  pub cut : IsCut start read units end
-  pub listed : AppendsFront out out' (lines start units)
+  pub cut : IsCut first_unit_place read units end
+  pub listed : AppendsFront out out' (lines first_unit_place units)
 
 -- and it took them all
 pub record IsReadListed (bytes : List ℕ) (held' out out' : Option (List ℕ)) : Type 0 where
@@ -43,8 +43,8 @@ pub record IsReadListed (bytes : List ℕ) (held' out out' : Option (List ℕ)) 
   pub holds : held' ≡ Some rest
   pub units : List UnitText
   pub end : Option Fault
-  pub cut : IsCut start read units end
-  pub listed : Appends out out' (lines start units)
+  pub cut : IsCut first_unit_place read units end
+  pub listed : Appends out out' (lines first_unit_place units)
 
 -- the answers that `list` may give, of whatever source
 abbrev pub IsListAnswer : Ended → Type 0

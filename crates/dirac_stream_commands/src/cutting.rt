@@ -1,6 +1,6 @@
 ghost use Rattle.std.specs.Prelude.{◌≡◌, ◌≤◌};
 ghost use Rattle.dirac_io.specs.Faults.{Rose};
-ghost use Rattle.dirac_stream_commands.specs.Cutting.{Cuts, IfUnwrittenBy, IsCutAnswer, ended_of as ended_by};
+ghost use Rattle.dirac_stream_commands.specs.Cutting.{Cuts, IfUnwrittenBy, IsCutAnswer, ended_of_edit};
 
 use dirac_command_line::Ended;
 use dirac_edit::{Edited, cut_stream};
@@ -29,7 +29,7 @@ pub fn cut<S: Source, K: Sink>(
 
 /// How a run ends that edits a stream.
 pub(crate) fn ended_of(edited: Edited) -> Ended
-    ensures { result ≡ ended_by edited }
+    ensures { result ≡ ended_of_edit edited }
 {
     match edited {
         Edited::Done => Ended::Done,

@@ -2,7 +2,7 @@ ghost use Rattle.std.specs.Prelude.{◌≡◌, ◌≤◌, IfOk, IfSome, string_b
 ghost use Rattle.std.specs.Io.KnownBytes.{Appends, IsAtEnd};
 ghost use Rattle.dirac_io.specs.Faults.{Rose};
 ghost use Rattle.dirac_io.specs.Writing.{AppendsFront};
-ghost use Rattle.dirac_decode.specs.Decoded.{IfDone, IfTally, IsDecoded as IsStreamDecoded};
+ghost use Rattle.dirac_decode.specs.Decoded.{IfDone, IfTally, IsDecodedStream};
 ghost use Rattle.dirac_content.specs.Leaving.{IsBrokenOff, IsFrontOfRead};
 ghost use Rattle.dirac_stream_commands.specs.Decoding.{IsDecodeAnswer, IsDecoded, TellsFew, tally_line};
 ghost use Rattle.dirac_stream_commands.specs.Inside.{IsFaultInside};
@@ -26,7 +26,7 @@ fn decoded_by<R: Threads + Sync, S: Source, K: Sink, G: RowGate>(
     gate: &G,
 ) -> Decoded
     requires { IfSome workers (λ n. (1 ≤ n) × (n ≤ 64)) }
-    ensures decoded { IfSome (S.held source.old) (λ bytes. IsStreamDecoded bytes result
+    ensures decoded { IfSome (S.held source.old) (λ bytes. IsDecodedStream bytes result
         (K.taken out.old) (K.taken out.new)) }
     ensures broken_off { result ≡ Decoded.ReadFault → IfSome (S.held source.old) (λ bytes. IsBrokenOff bytes
         (S.held source.new) (K.taken out.old) (K.taken out.new)) }

@@ -12,7 +12,7 @@ use Rattle.dirac_common.proofs.Rows.{filled_at, row_at, rows_all}
 use Rattle.dirac_quant.specs.Quantiser.{factor_of, offset_of, restored, scaled}
 use Rattle.dirac_bands.specs.Interleaving.{joined, joined_at}
 use Rattle.dirac_coeffs.specs.declared.layout.CodedBand.{CodedBand}
-use Rattle.dirac_lift.specs.Halves.{from_halves, place_of}
+use Rattle.dirac_lift.specs.Halves.{from_halves, place_in_halves}
 use Rattle.dirac_lift.proofs.RowLemmas.{length-row}
 use Rattle.dirac_synthesis.specs.Halves.{IsNarrowBand, beside, beside_at}
 use Rattle.dirac_synthesis.specs.Codeblocks.{restored_by_one}
@@ -82,7 +82,7 @@ row_all P t y row e all =
     rw e (All-take P (y * t.width + t.width - y * t.width) (drop (y * t.width) t.values) (All-drop P (y * t.width) t.values all))
 
 -- two such tables are the halves of the plane that four bands interleave to
-halves_at : (a b : Table) (w h n y x : ℕ) → w ≡ 2 * a.width → h ≡ a.height → x < w → y < h → get_or (beside a b).values (y * w + place_of w x) (pos 0) ≡ table_at (if x % 2 == 0 then a else b) (x / 2) y
+halves_at : (a b : Table) (w h n y x : ℕ) → w ≡ 2 * a.width → h ≡ a.height → x < w → y < h → get_or (beside a b).values (y * w + place_in_halves w x) (pos 0) ≡ table_at (if x % 2 == 0 then a else b) (x / 2) y
 halves_at a b w h n y x ew eh l k = elim (cases_eq (x % 2) 0) [
   | inl even ↦
       rw (eq-eqb (x % 2) 0 even, ew)
@@ -95,7 +95,7 @@ halves_at a b w h n y x ew eh l k = elim (cases_eq (x % 2) 0) [
       ∙ beside_right a b (x / 2) (a.width + x / 2) y refl)
 ]
 
-from_beside_at : (ll hl lh hh : Table) (w h x y : ℕ) → w ≡ 2 * ll.width → h ≡ ll.height → lh.width ≡ ll.width → lh.height ≡ ll.height → x < w → y < 2 * h → get_or (if y % 2 == 0 then (beside ll hl).values else (beside lh hh).values) (y / 2 * w + place_of w x) (pos 0) ≡ joined_at ll hl lh hh x y
+from_beside_at : (ll hl lh hh : Table) (w h x y : ℕ) → w ≡ 2 * ll.width → h ≡ ll.height → lh.width ≡ ll.width → lh.height ≡ ll.height → x < w → y < 2 * h → get_or (if y % 2 == 0 then (beside ll hl).values else (beside lh hh).values) (y / 2 * w + place_in_halves w x) (pos 0) ≡ joined_at ll hl lh hh x y
 from_beside_at ll hl lh hh w h x y ew eh sw sh l k = elim (cases_eq (y % 2) 0) [
   | inl even ↦ rw (eq-eqb (y % 2) 0 even) (halves_at ll hl w h 0 (y / 2) x ew eh l (omega (arith, k)))
   | inr odd ↦ rw (ne_eqb (y % 2) 0 odd) (halves_at lh hh w h 0 (y / 2) x (omega (arith, ew, sw)) (omega (arith, eh, sh)) l (omega (arith, k)))
@@ -106,9 +106,9 @@ from_beside ll hl lh hh w h es os ee eo ew eh sw sh some =
     ap (λ zs. from_halves w h zs os) ee ∙ ap (from_halves w h (beside ll hl).values) eo
     ∙ rows_all (joined_at ll hl lh hh) (from_halves w h (beside ll hl).values (beside lh hh).values) (2 * ll.width) (2 * ll.height) (2 * h) ew (ap (λ k. 2 * k) eh) (omega (arith, some, ew)) (omega (arith, eh))
     (record {
-      len = length-filled w (2 * h) (λ x y. get_or (if y % 2 == 0 then (beside ll hl).values else (beside lh hh).values) (y / 2 * w + place_of w x) (pos 0));
+      len = length-filled w (2 * h) (λ x y. get_or (if y % 2 == 0 then (beside ll hl).values else (beside lh hh).values) (y / 2 * w + place_in_halves w x) (pos 0));
       done = λ x y l k.
-          filled_at (λ x y. get_or (if y % 2 == 0 then (beside ll hl).values else (beside lh hh).values) (y / 2 * w + place_of w x) (pos 0)) w (2 * h) x y l k
+          filled_at (λ x y. get_or (if y % 2 == 0 then (beside ll hl).values else (beside lh hh).values) (y / 2 * w + place_in_halves w x) (pos 0)) w (2 * h) x y l k
           ∙ from_beside_at ll hl lh hh w h x y ew eh sw sh l k;
     })
 

@@ -12,8 +12,9 @@ use Rattle.dirac_header.specs.declared.transform.Transform.{Transform}
 use Rattle.dirac_coeffs.specs.declared.layout.CodedBand.{CodedBand}
 use Rattle.dirac_lift.specs.Level.{level}
 use Rattle.dirac_synthesis.specs.declared.bands.LevelBands.{LevelBands}
+use Rattle.dirac_synthesis.specs.declared.bands.Synthesis.{Synthesis}
 use Rattle.dirac_synthesis.specs.Codeblocks.{HasIndices, restored_band}
-use Rattle.dirac_synthesis.specs.Fits.{AreBandsOf, IsBandOf, IsBesides}
+use Rattle.dirac_synthesis.specs.Fits.{AreRestorableBands, IsBandOf, IsBesides}
 use Rattle.dirac_synthesis.specs.Levels.{IsLevel}
 use Rattle.dirac_synthesis.specs.Residual.{after_levels, restored_among, restored_at, summed}
 use Rattle.dirac_synthesis.proofs.Sizes.{level_length, quotient_bound, size_within}
@@ -69,12 +70,12 @@ stands_beside t width height n k low b l least most ew eh fits = record {
 }
 
 -- so a level can be synthesised
-pub stands_level : (t : Transform) (kind : Kind) (bands : List CodedBand) (width height n : ℕ) (counts : ℕ × ℕ) (low : Table) (beside : LevelBands)
-    → IsWavelet t.wavelet → t.depth ≤ 5 → width ≤ 8192 → height ≤ 8192 → AreBandsOf t width height bands → n < t.depth → slice_get t.counts (n + 1) ≡ Some counts
+pub stands_level : (t : Transform) (bands : List CodedBand) (width height n : ℕ) (by : Synthesis) (low : Table) (beside : LevelBands)
+    → IsWavelet by.wavelet → t.depth ≤ 5 → width ≤ 8192 → height ≤ 8192 → AreRestorableBands t width height bands → n < t.depth → slice_get t.counts (n + 1) ≡ Some by.counts
     → low.width ≡ lowest_size width t.depth * 2 ^ n → low.height ≡ lowest_size height t.depth * 2 ^ n → All (λ v. unsigned_abs v ≤ 2 ^ 103) low.values
     → slice_get bands (3 * n + 1) ≡ Some beside.hl.now → slice_get bands (3 * n + 2) ≡ Some beside.lh.now → slice_get bands (3 * n + 3) ≡ Some beside.hh.now
-    → IsLevel (record { wavelet = t.wavelet; kind = kind; counts = counts }) low beside
-stands_level t kind bands width height n counts low beside wavelet deep across down all l told ew eh small ga gb gd =
+    → IsLevel by low beside
+stands_level t bands width height n by low beside wavelet deep across down all l told ew eh small ga gb gd =
     let fa = all.each (3 * n + 1) beside.hl.now ga in
     let fb = all.each (3 * n + 2) beside.lh.now gb in
     let fd = all.each (3 * n + 3) beside.hh.now gd in
@@ -85,9 +86,9 @@ stands_level t kind bands width height n counts low beside wavelet deep across d
       hl = stands_beside t width height n (3 * n + 1) low beside.hl.now l (omega arith) (omega arith) ew eh fa;
       lh = stands_beside t width height n (3 * n + 2) low beside.lh.now l (omega arith) (omega arith) ew eh fb;
       hh = stands_beside t width height n (3 * n + 3) low beside.hh.now l (omega arith) (omega arith) ew eh fd;
-      hl_indices = counts_given t (3 * n + 1) (n + 1) counts beside.hl.now (omega arith) told fa.indices;
-      lh_indices = counts_given t (3 * n + 2) (n + 1) counts beside.lh.now (omega arith) told fb.indices;
-      hh_indices = counts_given t (3 * n + 3) (n + 1) counts beside.hh.now (omega arith) told fd.indices;
+      hl_indices = counts_given t (3 * n + 1) (n + 1) by.counts beside.hl.now (omega arith) told fa.indices;
+      lh_indices = counts_given t (3 * n + 2) (n + 1) by.counts beside.lh.now (omega arith) told fb.indices;
+      hh_indices = counts_given t (3 * n + 3) (n + 1) by.counts beside.hh.now (omega arith) told fd.indices;
       small = small;
     }
 

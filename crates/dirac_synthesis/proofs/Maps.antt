@@ -1,14 +1,22 @@
 -- Values that are changed one by one, and elements that are read.
-use Rattle.std.proofs.Common.{◌≡◌, ℕ, zero, suc, ℤ, pos, ◌<◌, ◌≤◌, List, [], ◌∷◌, length, map, get_or, slice_get, Some, Result, Ok, Err, IfOk, arith, ap, sym, ◌∙◌}
+use Rattle.std.proofs.Common.{◌≡◌, ℕ, zero, suc, ℤ, pos, ◌+◌, ◌<◌, ◌≤◌, List, [], ◌∷◌, length, map, get_or, set, slice_get, Some, Result, Ok, Err, IfOk, arith, inl, inr, ap, sym, ◌∙◌}
 use Rattle.std.specs.Simd.Lanes.{zip2}
 use Rattle.std.proofs.lemmas.Simd.{length-zip2, get_or-zip2}
-use Rattle.std.proofs.lemmas.List.{length-map, get_or-map, ext_get_or}
+use Rattle.std.proofs.lemmas.Bool.{cases_eq}
+use Rattle.std.proofs.lemmas.List.{length-map, get_or-map, get_or-set_same, get_or-set_other, ext_get_or}
 use Rattle.dirac_coeffs.specs.declared.layout.CodedBand.{CodedBand}
 
 pub mapped_all : (f : ℤ → ℤ) (xs ys : List ℤ) (n : ℕ) → length ys ≡ length xs → ((k : ℕ) → k < n → get_or ys k (pos 0) ≡ f (get_or xs k (pos 0))) → length xs ≤ n → ys ≡ map f xs
 mapped_all f xs ys n len each all =
     ext_get_or (pos 0) ys (map f xs) (len ∙ sym (length-map xs f)) (λ k l.
     each k (omega (arith, l, len, all)) ∙ sym (get_or-map f xs k (pos 0) (pos 0) (omega (arith, l, len))))
+
+-- one value more that is told by its place
+pub one_more_told : (g : ℕ → ℤ) (ys : List ℤ) (i : ℕ) (v : ℤ) → ((k : ℕ) → k < i → get_or ys k (pos 0) ≡ g k) → i < length ys → v ≡ g i → (k : ℕ) → k < i + 1 → get_or (set ys i v) k (pos 0) ≡ g k
+one_more_told g ys i v before inside e k l = elim (cases_eq k i) [
+  | inl last ↦ rw last (get_or-set_same ys i v (pos 0) inside ∙ e)
+  | inr earlier ↦ get_or-set_other ys i k v (pos 0) earlier ∙ before k (omega (arith, l, earlier))
+]
 
 -- the same of values that come of two lists
 pub mapped_both : (f : ℤ → ℤ) (g : ℤ → ℤ → ℤ) (xs ys zs : List ℤ) (n : ℕ) → length ys ≡ length xs → length zs ≡ length xs

@@ -1,22 +1,15 @@
 -- Samples of a plane that are made row by row.
-use Rattle.std.proofs.Common.{◌≡◌, ℕ, ℤ, pos, ◌+◌, ◌-◌, ◌*◌, ◌<◌, ◌≤◌, ◌+ℤ◌, List, length, map, get_or, take, drop, slice_range, arith, refl, ap, ap₂, sym, ◌∙◌, length-drop}
+use Rattle.std.proofs.Common.{◌≡◌, ℕ, ℤ, pos, ◌+◌, ◌-◌, ◌*◌, ◌<◌, ◌≤◌, ◌+ℤ◌, List, length, map, get_or, drop, slice_range, arith, refl, ap, sym, ◌∙◌, length-drop}
 use Rattle.std.proofs.lemmas.List.{length-map, length-take-le, get_or-drop, get_or-map, get_or-take}
-use Rattle.std.proofs.lemmas.Nat.{mul-add-lt}
+use Rattle.std.proofs.lemmas.Nat.{mul-add-lt, row_fits}
 use Rattle.std.proofs.lemmas.Simd.{length-zip2, get_or-zip2}
 use Rattle.dirac_common.specs.Samples.{clip}
 use Rattle.dirac_common.specs.Table.{Table, table_of}
 use Rattle.dirac_common.proofs.Rows.{rows_all}
 use Rattle.dirac_synthesis.specs.Residual.{clipped, summed_with, with_prediction}
-use Rattle.dirac_synthesis.specs.Strips.{clipped_at, summed_at}
-
--- clipped values, told by column and row
-pub clipped_told : (t : Table) → 0 < t.width → length t.values ≡ t.width * t.height → clipped t ≡ table_of t.width t.height (clipped_at t)
-clipped_told t some whole =
-    rows_all (clipped_at t) (clipped t) t.width t.height t.height refl refl some (omega arith)
-    (record {
-      len = length-map t.values clip ∙ whole;
-      done = λ x y l k. get_or-map clip t.values (y * t.width + x) (pos 0) (pos 0) (omega (arith, whole, mul-add-lt y t.width x t.height k l));
-    })
+use Rattle.dirac_synthesis.specs.declared.strips.Others.{Others}
+use Rattle.dirac_synthesis.specs.declared.strips.Others.TheVariants.{Nothing, Predicted}
+use Rattle.dirac_synthesis.specs.Strips.{AreAsMany, AreEnough, sample_at, with_others}
 
 -- a sum that is clipped
 pub sum_at : (xs ys : List ℤ) (k : ℕ) → k < length xs → length ys ≡ length xs → get_or (map clip (summed_with xs ys)) k (pos 0) ≡ clip (get_or xs k (pos 0) +ℤ get_or ys k (pos 0))
@@ -25,32 +18,39 @@ sum_at xs ys k l e =
     get_or-map clip (summed_with xs ys) k (pos 0) (pos 0) (omega (arith, l, len))
     ∙ ap clip (get_or-zip2 (λ v w. v +ℤ w) xs ys k (pos 0) (pos 0) (pos 0) l (omega (arith, l, e)))
 
-pub summed_told : (t : Table) (predicted : List ℤ) → 0 < t.width → length t.values ≡ t.width * t.height → length predicted ≡ length t.values → clipped (with_prediction t predicted) ≡ table_of t.width t.height (summed_at t predicted)
-summed_told t predicted some whole e =
-    rows_all (summed_at t predicted) (clipped (with_prediction t predicted)) t.width t.height t.height refl refl some (omega arith)
+-- samples, told by column and row
+pub samples_told : (o : Others) (t : Table) → 0 < t.width → length t.values ≡ t.width * t.height → AreAsMany o (t.width * t.height) → clipped (with_others o t) ≡ table_of t.width t.height (sample_at o t)
+samples_told Nothing t some whole fits =
+    rows_all (sample_at Nothing t) (clipped t) t.width t.height t.height refl refl some (omega arith)
     (record {
-      len = length-map (summed_with t.values predicted) clip ∙ length-zip2 (λ v w. v +ℤ w) t.values predicted (sym e) ∙ whole;
-      done = λ x y l k. sum_at t.values predicted (y * t.width + x) (omega (arith, whole, mul-add-lt y t.width x t.height k l)) e;
+      len = length-map t.values clip ∙ whole;
+      done = λ x y l k. get_or-map clip t.values (y * t.width + x) (pos 0) (pos 0) (omega (arith, whole, mul-add-lt y t.width x t.height k l));
+    })
+samples_told (Predicted values) t some whole fits =
+    let predicted : List ℤ = values.now in
+    rows_all (sample_at (Predicted values) t) (clipped (with_prediction t predicted)) t.width t.height t.height refl refl some (omega arith)
+    (record {
+      len = length-map (summed_with t.values predicted) clip ∙ length-zip2 (λ v w. v +ℤ w) t.values predicted (whole ∙ sym fits) ∙ whole;
+      done = λ x y l k. sum_at t.values predicted (y * t.width + x) (omega (arith, whole, mul-add-lt y t.width x t.height k l)) (fits ∙ sym whole);
     })
 
+-- as many values as a plane has are enough for its rows
+pub enough_others : (o : Others) (w h y : ℕ) → AreAsMany o (w * h) → y < h → AreEnough o (y * w + w)
+enough_others Nothing w h y fits l = tt
+enough_others (Predicted values) w h y fits l = omega (arith, fits, row_fits y w h w l (omega arith))
+
 -- a value of a line that is clipped
-pub clipped_line : (w x : ℕ) (line ws : List ℤ) → w ≤ length line → ws ≡ map clip (take w line) → x < w → get_or ws x (pos 0) ≡ clip (get_or line x (pos 0))
-clipped_line w x line ws fits ew l =
-    let part : length (take w line) ≡ w = length-take-le w line fits in
-    ap (λ zs. get_or zs x (pos 0)) ew
-    ∙ get_or-map clip (take w line) x (pos 0) (pos 0) (omega (arith, l, part))
-    ∙ ap clip (get_or-take w line x (pos 0) l)
+pub clipped_line : (x : ℕ) (line ws : List ℤ) → ws ≡ map clip line → x < length line → get_or ws x (pos 0) ≡ clip (get_or line x (pos 0))
+clipped_line x line ws ew l = ap (λ zs. get_or zs x (pos 0)) ew ∙ get_or-map clip line x (pos 0) (pos 0) l
 
 -- a value of a line that is summed with what stands in a list from one place on, and clipped
-pub summed_line : (w at x : ℕ) (predicted line ws : List ℤ) → w ≤ length line → at + w ≤ length predicted → ws ≡ map clip (summed_with (take w line) (slice_range predicted at (at + w))) → x < w
+pub summed_line : (at x : ℕ) (predicted line ws : List ℤ) → at + length line ≤ length predicted → ws ≡ map clip (summed_with line (slice_range predicted at (at + length line))) → x < length line
     → get_or ws x (pos 0) ≡ clip (get_or line x (pos 0) +ℤ get_or predicted (at + x) (pos 0))
-summed_line w at x predicted line ws fits inside ew l =
-    let part : length (take w line) ≡ w = length-take-le w line fits in
-    let size : at + w - at ≡ w = omega arith in
+summed_line at x predicted line ws inside ew l =
+    let size : at + length line - at ≡ length line = omega arith in
     let behind : length (drop at predicted) ≡ length predicted - at = length-drop at predicted in
-    let others : length (slice_range predicted at (at + w)) ≡ w = length-take-le (at + w - at) (drop at predicted) (omega (arith, size, behind, inside)) ∙ size in
+    let others : length (slice_range predicted at (at + length line)) ≡ length line = length-take-le (at + length line - at) (drop at predicted) (omega (arith, size, behind, inside)) ∙ size in
     ap (λ zs. get_or zs x (pos 0)) ew
-    ∙ sum_at (take w line) (slice_range predicted at (at + w)) x (omega (arith, l, part)) (omega (arith, others, part))
-    ∙ ap₂ (λ u v. clip (u +ℤ v))
-    (get_or-take w line x (pos 0) l)
-    (get_or-take (at + w - at) (drop at predicted) x (pos 0) (omega (arith, l, size)) ∙ get_or-drop at predicted x (pos 0))
+    ∙ sum_at line (slice_range predicted at (at + length line)) x l others
+    ∙ ap (λ v. clip (get_or line x (pos 0) +ℤ v))
+    (get_or-take (at + length line - at) (drop at predicted) x (pos 0) (omega (arith, l, size)) ∙ get_or-drop at predicted x (pos 0))

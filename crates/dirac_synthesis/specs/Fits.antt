@@ -23,7 +23,7 @@ pub record IsBandOf (t : Transform) (width height n : ℕ) (b : CodedBand) : Typ
   pub small : All (λ v. unsigned_abs v < 2 ^ 39 - 1) b.table.values
 
 -- the bands of a plane of this size, all of them
-pub record AreBandsOf (t : Transform) (width height : ℕ) (bands : List CodedBand) : Type 0 where
+pub record AreRestorableBands (t : Transform) (width height : ℕ) (bands : List CodedBand) : Type 0 where
   pub count : length bands ≡ 3 * t.depth + 1
   pub each : (n : ℕ) (b : CodedBand) → slice_get bands n ≡ Some b → IsBandOf t width height n b
 

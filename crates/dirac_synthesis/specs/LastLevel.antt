@@ -1,14 +1,13 @@
 -- The last level of a plane, before it is synthesised, and rows that are made of it.
-use Rattle.std.specs.Prelude.{◌≡◌, ℕ, ℤ, ◌+◌, ◌-◌, ◌*◌, ◌/◌, ◌<◌, ◌≤◌, List, unsigned_abs}
+use Rattle.std.specs.Prelude.{ℕ, ℤ, ◌+◌, ◌*◌, ◌/◌, ◌≤◌, List, unsigned_abs}
 use Rattle.std.specs.List.{All}
 use Rattle.dirac_common.specs.declared.limits.TheConstants.{LARGEST_NARROW, LARGEST_SIDE}
 use Rattle.dirac_common.specs.Limits.{IsWavelet}
-use Rattle.dirac_common.specs.Table.{Table, table_at}
+use Rattle.dirac_common.specs.Table.{Table}
 use Rattle.dirac_lift.specs.declared.half_levels.LinesAtWork.{LinesAtWork}
 use Rattle.dirac_lift.specs.AtWork.{HasGiven, IsAtWork}
 use Rattle.dirac_lift.specs.Level.{synthesised}
 use Rattle.dirac_synthesis.specs.declared.last.LastLevel.{LastLevel}
-use Rattle.dirac_synthesis.specs.declared.last.MadeRows.{MadeRows}
 use Rattle.dirac_synthesis.specs.Codeblocks.{restored_by_one}
 use Rattle.dirac_synthesis.specs.Halves.{beside}
 use Rattle.dirac_synthesis.specs.Levels.{joined_by}
@@ -28,13 +27,6 @@ pub record IsLastLevel (l : LastLevel) : Type 0 where
   pub pairs : l.low.height ≤ LARGEST_SIDE
   pub across : (1 ≤ l.width) × (l.width ≤ 2 * l.low.width)
   pub down : (1 ≤ l.height) × (l.height ≤ 2 * l.low.height)
-
--- rows from .. to of a table are among made rows
-pub record HoldsRows (whole : Table) (from to : ℕ) (made : MadeRows) : Type 0 where
-  pub across : whole.width ≤ made.rows.width
-  pub down : made.above + (to - from) ≤ made.rows.height
-  pub each : (x y : ℕ) → x < whole.width → from ≤ y → y < to
-      → table_at made.rows x (made.above + (y - from)) ≡ table_at whole x y
 
 -- the even rows of a last level's plane and its odd ones, in halves
 abbrev pub even_halves : LastLevel → List ℤ

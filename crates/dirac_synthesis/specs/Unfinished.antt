@@ -18,7 +18,7 @@ CanMakeRows (Whole t) = Unit {0}
 CanMakeRows (Lines l) = IsLastLevel l
 
 -- what a residual of which something is made is, whatever its values
-pub record IsPart (p : Part) : Type 0 where
+pub record IsUnfinishedPart (p : Part) : Type 0 where
   pub rows : CanMakeRows p
   pub across : (1 ≤ (part_table p).width) × ((part_table p).width ≤ LARGEST_TABLE_SIDE)
   pub down : (1 ≤ (part_table p).height) × ((part_table p).height ≤ LARGEST_TABLE_SIDE)

@@ -24,6 +24,13 @@ pub struct LevelBands<'a> {
     pub hh: &'a CodedBand,
 }
 
+/// A level: how it is synthesised, and the bands beside its LL band.
+#[derive(Clone, Copy)]
+pub struct Level<'a> {
+    pub by: Synthesis,
+    pub bands: LevelBands<'a>,
+}
+
 /// Whether the codeblocks of each of the bands have its index: then this restores all its values.
 pub fn have_one_index(bands: LevelBands, counts: (u32, u32)) -> bool
     requires hl { HasIndices counts bands.hl.now }

@@ -13,15 +13,15 @@ pub struct Residual {
 
 impl Model for Residual {
     ghost use Rattle.dirac_common.specs.Table.{Table};
-    ghost use Rattle.dirac_lift.specs.Held.{held_table};
+    ghost use Rattle.dirac_lift.specs.Held.{held_plane};
 
     ghost Value = { Table };
 
-    ghost view = { λ r. held_table r.held };
+    ghost view = { λ r. held_plane r.held };
 }
 
 impl Residual {
-    ghost use Rattle.dirac_lift.specs.Held.{held_table};
+    ghost use Rattle.dirac_lift.specs.Held.{held_plane};
     ghost use Rattle.dirac_synthesis.specs.Zeros.{zeros};
 
     /// A residual of zeros.
@@ -81,14 +81,14 @@ impl Residual {
 
     /// What is held.
     pub(crate) fn into_held(self) -> Held
-        ensures { held_table result ≡ self }
+        ensures { held_plane result ≡ self }
     {
         self.held
     }
 
     /// Lends what is held.
     pub(crate) fn held(&self) -> &Held
-        ensures { held_table result.now ≡ self.now }
+        ensures { held_plane result.now ≡ self.now }
     {
         &self.held
     }

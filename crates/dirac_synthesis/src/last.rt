@@ -1,11 +1,11 @@
 //! The last level of a plane whose coefficients are at most 4,095, of which rows are made as they are asked for.
-ghost use Rattle.std.specs.Prelude.{◌≡◌, ◌+◌, ◌*◌, ◌<◌, ◌≤◌, if◌then◌else◌, ◌==◌, IfOk};
+ghost use Rattle.std.specs.Prelude.{◌≡◌, ◌+◌, ◌*◌, ◌<◌, ◌≤◌, ◌==◌, IfOk};
 ghost use Rattle.dirac_common.specs.Limits.{IsWavelet};
-ghost use Rattle.dirac_lift.specs.Windows.{AreInside, window_half};
+ghost use Rattle.dirac_lift.specs.Windows.{AreInsideWindow, window_half};
 ghost use Rattle.dirac_lift.specs.Windows as windows;
 ghost use Rattle.dirac_synthesis.specs.Codeblocks.{restored_by_one};
 ghost use Rattle.dirac_synthesis.specs.Halves.{beside};
-ghost use Rattle.dirac_synthesis.specs.LastLevel.{HasMade, HoldsRows, IsLastLevel, even_halves, last_residual};
+ghost use Rattle.dirac_synthesis.specs.LastLevel.{HasMade, IsLastLevel, even_halves, last_residual};
 ghost use Rattle.dirac_synthesis.specs.LastLevel.{odd_halves};
 ghost use Rattle.dirac_synthesis.specs.NarrowLevels.{IsNarrowLevel};
 ghost use Rattle.dirac_synthesis.specs.Residual.{rows_between};
@@ -103,7 +103,7 @@ fn pairs_for(wavelet: u8, half: u32, from: u32, to: u32) -> Pairs
     requires half { half ≤ LARGEST_SIDE }
     requires some { from < to }
     requires inside { to ≤ 2 * half }
-    ensures { AreInside wavelet half result.first (result.first + result.count) from to }
+    ensures { AreInsideWindow wavelet half result.first (result.first + result.count) from to }
 {
     let margin = margin(wavelet);
     let first = (from / 2).saturating_sub(margin);
@@ -112,41 +112,6 @@ fn pairs_for(wavelet: u8, half: u32, from: u32, to: u32) -> Pairs
         first,
         count: end - first,
     }
-}
-
-/// Some rows of a level, with others above and below that were made with them.
-#[derive(Drop)]
-pub struct MadeRows {
-    pub rows: Narrow,
-    pub above: u32,
-}
-
-/// Makes rows `from` to `to`.
-pub fn make_rows(
-    alloc: Global,
-    level: &LastLevel<'_>,
-    from: u32,
-    to: u32,
-) -> Result<MadeRows, NoMemory>
-    requires level { IsLastLevel level.now }
-    requires some { from < to }
-    requires inside { to ≤ level.now.height }
-    ensures { IfOk result (HoldsRows (last_residual level.now) from to) }
-{
-    let low = &level.low;
-    let rows = RestoredRows {
-        low,
-        bands: level.bands,
-        kind: level.kind,
-    };
-    let pairs = pairs_for(level.wavelet, low.height(), from, to);
-    let window = Window { rows, pairs };
-    let across = 2 * low.width();
-    let rows = synth_level_by_lines(alloc, level.wavelet, &window, across, pairs.count)?;
-    Ok(MadeRows {
-        rows,
-        above: from - 2 * pairs.first,
-    })
 }
 
 /// A last level at work, before its first row.
@@ -172,7 +137,17 @@ pub fn last_rows(
     requires inside { to ≤ level.now.height }
     ensures { IfOk result (λ t. t ≡ rows_between from to (last_residual level.now)) }
 {
-    let made = make_rows(alloc, level, from, to)?;
-    let part = cut_narrow(alloc, &made.rows, made.above, level.width, to - from)?;
+    let low = &level.low;
+    let rows = RestoredRows {
+        low,
+        bands: level.bands,
+        kind: level.kind,
+    };
+    let pairs = pairs_for(level.wavelet, low.height(), from, to);
+    let window = Window { rows, pairs };
+    let across = 2 * low.width();
+    let made = synth_level_by_lines(alloc, level.wavelet, &window, across, pairs.count)?;
+    let above = from - 2 * pairs.first;
+    let part = cut_narrow(alloc, &made, above, level.width, to - from)?;
     Ok(Residual::of_narrow(part))
 }

@@ -167,7 +167,8 @@ impl RowPairs for RestoredRows<'_> {
 
     ghost evens = { λ r. (beside r.low.now (restored_by_one r.kind r.bands.hl.now)).values };
 
-    ghost odds = { λ r. (beside (restored_by_one r.kind r.bands.lh.now) (restored_by_one r.kind r.bands.hh.now)).values };
+    ghost odds = { λ r. (beside (restored_by_one r.kind r.bands.lh.now)
+        (restored_by_one r.kind r.bands.hh.now)).values };
 
     #[inline(always)]
     fn put_pair(&self, pair: u32, even: &mut [i32], odd: &mut [i32]) {

@@ -2,14 +2,14 @@ ghost use Rattle.std.specs.Prelude.{◌≡◌, ℕ, true, ◌+◌, ◌-◌, ◌*
 ghost use Rattle.std.specs.Prelude.{slice_get, Some};
 ghost use Rattle.std.specs.List.{All};
 ghost use Rattle.dirac_common.specs.Limits.{IsDepth, IsIndex, IsWavelet};
-ghost use Rattle.dirac_bands.specs.Geometry.{lowest_size};
 ghost use Rattle.dirac_coeffs.specs.declared.layout.CodedBand.{CodedBand as TheBand};
 ghost use Rattle.dirac_lift.specs.Zeros.{AreZeros};
 ghost use Rattle.dirac_synthesis.specs.Codeblocks.{HasIndices, restored_band};
-ghost use Rattle.dirac_synthesis.specs.Fits.{AreBandsOf};
-ghost use Rattle.dirac_synthesis.specs.Residual.{after_levels, residual, summed};
+ghost use Rattle.dirac_synthesis.specs.Fits.{AreRestorableBands};
+ghost use Rattle.dirac_synthesis.specs.Levels.{IsLevelOf, IsLow};
+ghost use Rattle.dirac_synthesis.specs.Residual.{residual, summed};
 
-use crate::bands::{LevelBands, Synthesis};
+use crate::bands::{Level, LevelBands, Synthesis};
 use crate::cut::cut_off;
 use crate::held::Residual;
 use crate::levels::next_level;
@@ -57,6 +57,33 @@ pub fn have_zeros_alone(bands: &[CodedBand]) -> bool
     true
 }
 
+/// The level behind the first `n`.
+pub fn level_of<'a>(
+    transform: &Transform,
+    kind: Kind,
+    bands: &'a [CodedBand],
+    n: usize,
+) -> Level<'a>
+    requires depth { IsDepth transform.now.depth }
+    requires levels { length transform.now.counts ≡ transform.now.depth + 1 }
+    requires bands { length bands.now ≡ 3 * transform.now.depth + 1 }
+    requires level { n < transform.now.depth }
+    ensures { IsLevelOf transform.now kind bands.now n result }
+{
+    Level {
+        by: Synthesis {
+            wavelet: transform.wavelet,
+            kind,
+            counts: transform.counts.at(n as u8 + 1),
+        },
+        bands: LevelBands {
+            hl: &bands[3 * n + 1],
+            lh: &bands[3 * n + 2],
+            hh: &bands[3 * n + 3],
+        },
+    }
+}
+
 /// The LL band after the synthesis of the first `levels` levels.
 pub fn low_after(
     alloc: Global,
@@ -72,27 +99,15 @@ pub fn low_after(
     requires levels { length transform.now.counts ≡ transform.now.depth + 1 }
     requires across { (1 ≤ width) × (width ≤ LARGEST_TABLE_SIDE) }
     requires down { (1 ≤ height) × (height ≤ LARGEST_TABLE_SIDE) }
-    requires bands { AreBandsOf transform.now width height bands.now }
+    requires bands { AreRestorableBands transform.now width height bands.now }
     requires first { levels ≤ transform.now.depth }
-    ensures value { IfOk result (λ t. t ≡ after_levels transform.now kind bands.now levels) }
-    ensures across { IfOk result (λ t. t.width ≡ lowest_size width transform.now.depth * 2 ^ levels) }
-    ensures down { IfOk result (λ t. t.height ≡ lowest_size height transform.now.depth * 2 ^ levels) }
-    ensures bound { IfOk result (λ t. All (λ v. unsigned_abs v ≤ 2 ^ 77 * 73 ^ levels) t.values) }
+    ensures { IfOk result (IsLow transform.now kind bands.now width height levels) }
 {
     let lowest = lowest_band(alloc, &bands[0], transform.counts.at(0), kind)?;
     let mut low = Residual::try_of(alloc, lowest)?;
     for n in 0..levels as usize {
-        let by = Synthesis {
-            wavelet: transform.wavelet,
-            kind,
-            counts: transform.counts.at(n as u8 + 1),
-        };
-        let beside = LevelBands {
-            hl: &bands[3 * n + 1],
-            lh: &bands[3 * n + 2],
-            hh: &bands[3 * n + 3],
-        };
-        let next = next_level(alloc, by, &low, beside)?;
+        let level = level_of(transform, kind, bands, n);
+        let next = next_level(alloc, level.by, &low, level.bands)?;
         low = next;
     }
     Ok(low)
@@ -114,7 +129,7 @@ pub fn plane_residual(
     requires levels { length transform.now.counts ≡ transform.now.depth + 1 }
     requires across { (1 ≤ width) × (width ≤ LARGEST_TABLE_SIDE) }
     requires down { (1 ≤ height) × (height ≤ LARGEST_TABLE_SIDE) }
-    requires bands { AreBandsOf transform.now width height bands.now }
+    requires bands { AreRestorableBands transform.now width height bands.now }
     ensures value { IfOk result (λ t. t ≡ residual transform.now kind bands.now width height) }
     ensures bound { IfOk result (λ t. All (λ v. unsigned_abs v ≤ 2 ^ 108) t.values) }
 {

@@ -1,8 +1,9 @@
 //! The samples of a plane, made row by row: a row of its residual is clipped as soon as it is synthesised.
-ghost use Rattle.std.specs.Prelude.{◌≡◌, ◌*◌, ◌≤◌, length, IfOk};
+ghost use Rattle.std.specs.Prelude.{◌≡◌, ℕ, pos, ◌+◌, ◌*◌, ◌<◌, ◌≤◌, length, slice_index_or, IfOk};
 ghost use Rattle.dirac_synthesis.specs.LastLevel.{HasMade, IsLastLevel, last_residual};
 ghost use Rattle.dirac_synthesis.specs.Residual.{clipped as clipped_table, with_prediction};
-ghost use Rattle.dirac_synthesis.specs.Unfinished.{IsPart, part_table};
+ghost use Rattle.dirac_synthesis.specs.Strips.{AreAsMany, AreEnough, clipped_with, with_others};
+ghost use Rattle.dirac_synthesis.specs.Unfinished.{IsUnfinishedPart, part_table};
 
 use crate::clip::{clip_narrow_sums, clip_narrow_values, clipped, clipped_sum};
 use crate::last::{LastLevel, lines_of};
@@ -11,35 +12,62 @@ use dirac_common::{LARGEST_TABLE_SIDE, NoMemory, Plane};
 use dirac_lift::LinesAtWork;
 use std::alloc::Global;
 
+/// What is predicted for the samples of a plane, by rows.
+#[derive(Clone, Copy)]
+pub enum Others<'a> {
+    Nothing,
+    Predicted(&'a [i32]),
+}
+
+/// Clips a row of a residual with what is predicted for it, from place `start` on.
+#[inline(always)]
+fn clip_row(line: &[i32], others: Others, start: usize, samples: &mut [i16])
+    requires samples { length samples.old ≡ length line.now }
+    requires others { AreEnough others (start + length line.now) }
+    ensures { (x : ℕ) → x < length line.now → slice_index_or samples.new x (pos 0)
+        ≡ clipped_with others.entry (slice_index_or line.now x (pos 0)) (start + x) }
+{
+    match others {
+        Others::Nothing => clip_narrow_values(line, samples),
+        Others::Predicted(values) => {
+            clip_narrow_sums(line, &values[start..start + line.len()], samples)
+        }
+    }
+}
+
 /// Makes and clips all rows of a plane.
 fn clip_rows(
     level: &LastLevel<'_>,
     lines: &mut LinesAtWork,
     work: &mut [i32],
     line: &mut [i32],
+    others: Others,
     plane: &mut Plane,
 )
     requires level { IsLastLevel level.now }
     requires none_made { HasMade level.now 0 lines.old }
     requires work { length work.old ≡ 2 * level.now.low.width }
     requires line { length line.old ≡ 2 * level.now.low.width }
+    requires others { AreAsMany others (level.now.width * level.now.height) }
     requires across { plane.old.width ≡ level.now.width }
     requires down { plane.old.height ≡ level.now.height }
-    ensures { plane.new ≡ clipped_table (last_residual level.now) }
+    ensures { plane.new ≡ clipped_table (with_others others.entry (last_residual level.now)) }
 {
     let width = plane.width() as usize;
     for y in 0..plane.height() {
         lines.next_row(level, y, work, line);
-        clip_narrow_values(&line[..width], plane.row_mut(y));
+        let start = y as usize * width;
+        clip_row(&line[..width], others, start, plane.row_mut(y));
     }
 }
 
 /// The samples of a plane whose last level waits.
-fn clip_level(alloc: Global, level: &LastLevel<'_>) -> Result<Plane, NoMemory>
+fn clip_level(alloc: Global, level: &LastLevel<'_>, others: Others) -> Result<Plane, NoMemory>
     requires level { IsLastLevel level.now }
     requires across { level.now.width ≤ LARGEST_TABLE_SIDE }
     requires down { level.now.height ≤ LARGEST_TABLE_SIDE }
-    ensures { IfOk result (λ plane. plane ≡ clipped_table (last_residual level.now)) }
+    requires others { AreAsMany others (level.now.width * level.now.height) }
+    ensures { IfOk result (λ plane. plane ≡ clipped_table (with_others others.entry (last_residual level.now))) }
 {
     let across = 2 * level.low.width() as usize;
     let mut work = vec![in alloc; 0i32; across]?;
@@ -51,19 +79,24 @@ fn clip_level(alloc: Global, level: &LastLevel<'_>) -> Result<Plane, NoMemory>
         &mut lines,
         work.as_mut_slice(),
         line.as_mut_slice(),
+        others,
         &mut plane,
     );
     Ok(plane)
 }
 
 /// The samples of a plane of whose residual something is made.
-fn clip_part(alloc: Global, part: &Part<'_>) -> Result<Plane, NoMemory>
-    requires { IsPart part.now }
-    ensures { IfOk result (λ plane. plane ≡ clipped_table (part_table part.now)) }
+fn clip_part(alloc: Global, part: &Part<'_>, others: Others) -> Result<Plane, NoMemory>
+    requires part { IsUnfinishedPart part.now }
+    requires others { AreAsMany others ((part_table part.now).width * (part_table part.now).height) }
+    ensures { IfOk result (λ plane. plane ≡ clipped_table (with_others others.entry (part_table part.now))) }
 {
     match part {
-        Part::Whole(values) => clipped(alloc, values),
-        Part::Lines(level) => clip_level(alloc, level),
+        Part::Whole(residual) => match others {
+            Others::Nothing => clipped(alloc, residual),
+            Others::Predicted(values) => clipped_sum(alloc, residual, values),
+        },
+        Part::Lines(level) => clip_level(alloc, level, others),
     }
 }
 
@@ -71,70 +104,7 @@ fn clip_part(alloc: Global, part: &Part<'_>) -> Result<Plane, NoMemory>
 pub fn clipped_by_strips(alloc: Global, values: &Unfinished<'_>) -> Result<Plane, NoMemory>
     ensures { IfOk result (λ plane. plane ≡ clipped_table values.now) }
 {
-    clip_part(alloc, values.part())
-}
-
-/// Makes all rows of a plane, and clips them with what is predicted for it.
-fn sum_rows(
-    level: &LastLevel<'_>,
-    lines: &mut LinesAtWork,
-    work: &mut [i32],
-    line: &mut [i32],
-    predicted: &[i32],
-    plane: &mut Plane,
-)
-    requires level { IsLastLevel level.now }
-    requires none_made { HasMade level.now 0 lines.old }
-    requires work { length work.old ≡ 2 * level.now.low.width }
-    requires line { length line.old ≡ 2 * level.now.low.width }
-    requires predicted { length predicted.now ≡ level.now.width * level.now.height }
-    requires across { plane.old.width ≡ level.now.width }
-    requires down { plane.old.height ≡ level.now.height }
-    ensures { plane.new ≡ clipped_table (with_prediction (last_residual level.now) predicted.now) }
-{
-    let width = plane.width() as usize;
-    for y in 0..plane.height() {
-        lines.next_row(level, y, work, line);
-        let start = y as usize * width;
-        let others = &predicted[start..start + width];
-        clip_narrow_sums(&line[..width], others, plane.row_mut(y));
-    }
-}
-
-/// The samples of a predicted plane whose last level waits.
-fn sum_level(alloc: Global, level: &LastLevel<'_>, predicted: &[i32]) -> Result<Plane, NoMemory>
-    requires level { IsLastLevel level.now }
-    requires across { level.now.width ≤ LARGEST_TABLE_SIDE }
-    requires down { level.now.height ≤ LARGEST_TABLE_SIDE }
-    requires predicted { length predicted.now ≡ level.now.width * level.now.height }
-    ensures { IfOk result (λ plane. plane ≡ clipped_table (with_prediction (last_residual level.now) predicted.now)) }
-{
-    let across = 2 * level.low.width() as usize;
-    let mut work = vec![in alloc; 0i32; across]?;
-    let mut line = vec![in alloc; 0i32; across]?;
-    let mut lines = lines_of(alloc, level)?;
-    let mut plane = Plane::try_new(alloc, level.width, level.height, 0)?;
-    sum_rows(
-        level,
-        &mut lines,
-        work.as_mut_slice(),
-        line.as_mut_slice(),
-        predicted,
-        &mut plane,
-    );
-    Ok(plane)
-}
-
-/// The samples of a predicted plane of whose residual something is made.
-fn sum_part(alloc: Global, part: &Part<'_>, predicted: &[i32]) -> Result<Plane, NoMemory>
-    requires part { IsPart part.now }
-    requires predicted { length predicted.now ≡ (part_table part.now).width * (part_table part.now).height }
-    ensures { IfOk result (λ plane. plane ≡ clipped_table (with_prediction (part_table part.now) predicted.now)) }
-{
-    match part {
-        Part::Whole(residual) => clipped_sum(alloc, residual, predicted),
-        Part::Lines(level) => sum_level(alloc, level, predicted),
-    }
+    clip_part(alloc, values.part(), Others::Nothing)
 }
 
 /// The plane whose samples are the values of a residual plus their predictions, which stand by rows, each sum
@@ -147,5 +117,5 @@ pub fn clipped_sum_by_strips(
     requires { length predicted.now ≡ residual.now.width * residual.now.height }
     ensures { IfOk result (λ plane. plane ≡ clipped_table (with_prediction residual.now predicted.now)) }
 {
-    sum_part(alloc, residual.part(), predicted)
+    clip_part(alloc, residual.part(), Others::Predicted(predicted))
 }

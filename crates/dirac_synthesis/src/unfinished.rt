@@ -2,21 +2,21 @@
 ghost use Rattle.std.specs.Prelude.{◌≡◌, ◌+◌, ◌*◌, ◌^◌, ◌<◌, ◌≤◌, length, unsigned_abs, IfOk};
 ghost use Rattle.std.specs.List.{All};
 ghost use Rattle.dirac_common.specs.Limits.{IsDepth, IsWavelet};
-ghost use Rattle.dirac_synthesis.specs.Fits.{AreBandsOf};
+ghost use Rattle.dirac_synthesis.specs.Fits.{AreRestorableBands};
 ghost use Rattle.dirac_synthesis.specs.Levels.{IsLevel, next_low};
 ghost use Rattle.dirac_synthesis.specs.Residual.{cut, residual, rows_between};
-ghost use Rattle.dirac_synthesis.specs.Unfinished.{CanMakeRows, IsPart, part_table};
+ghost use Rattle.dirac_synthesis.specs.Unfinished.{CanMakeRows, IsUnfinishedPart, part_table};
 ghost use Rattle.dirac_synthesis.specs.Zeros.{zeros};
 
-use crate::bands::{LevelBands, Synthesis, have_one_index};
+use crate::bands::{Level, have_one_index};
 use crate::cut::{cut_off, rows_of};
 use crate::held::Residual;
 use crate::last::{LastLevel, last_rows};
-use crate::levels::wide_level;
+use crate::levels::next_level;
 use crate::narrow::are_narrow;
-use crate::plane::{have_zeros_alone, low_after, plane_residual};
+use crate::plane::{have_zeros_alone, level_of, low_after, plane_residual};
 use dirac_coeffs::CodedBand;
-use dirac_common::{Kind, LARGEST_TABLE_SIDE, Narrow, NoMemory, Wide};
+use dirac_common::{Kind, LARGEST_TABLE_SIDE, NoMemory};
 use dirac_header::Transform;
 use dirac_lift::{Held, is_narrow};
 use std::alloc::Global;
@@ -38,97 +38,71 @@ pub struct Unfinished<'a> {
 
 impl<'a> Model for Unfinished<'a> {
     ghost use Rattle.dirac_common.specs.Table.{Table};
-    ghost use Rattle.dirac_synthesis.specs.Unfinished.{IsPart, part_table};
+    ghost use Rattle.dirac_synthesis.specs.Unfinished.{IsUnfinishedPart, part_table};
 
     ghost Value = { Table };
 
     ghost view = { λ u. part_table u.part };
 
-    ghost invariant = { λ u. IsPart u.part };
+    ghost invariant = { λ u. IsUnfinishedPart u.part };
 }
 
-/// A whole residual, of which nothing but the first columns and rows is left.
+/// All of a residual whose last level is made at once.
 fn whole_part<'a>(
     alloc: Global,
-    table: Residual,
+    level: Level<'a>,
+    low: &Residual,
     width: u32,
     height: u32,
 ) -> Result<Part<'a>, NoMemory>
-    requires across { (1 ≤ width) × (width ≤ table.width) × (width ≤ LARGEST_TABLE_SIDE) }
-    requires down { (1 ≤ height) × (height ≤ table.height) × (height ≤ LARGEST_TABLE_SIDE) }
-    ensures value { IfOk result (λ p. part_table p ≡ cut width height table) }
+    requires level { IsLevel level.by low.now level.bands }
+    requires across { (1 ≤ width) × (width ≤ 2 * low.now.width) × (width ≤ LARGEST_TABLE_SIDE) }
+    requires down { (1 ≤ height) × (height ≤ 2 * low.now.height) × (height ≤ LARGEST_TABLE_SIDE) }
+    ensures value { IfOk result (λ p. part_table p ≡ cut width height
+        (next_low level.entry.by low.now level.entry.bands)) }
     ensures rows { IfOk result CanMakeRows }
 {
-    let whole = cut_off(alloc, table, width, height)?;
+    let next = next_level(alloc, level.by, low, level.bands)?;
+    let whole = cut_off(alloc, next, width, height)?;
     Ok(Part::Whole(whole))
 }
 
-/// What is made of a residual before a last level whose LL band is held wide: all.
-fn part_of_wide<'a>(
-    alloc: Global,
-    by: Synthesis,
-    low: &Wide,
-    bands: LevelBands<'a>,
-    width: u32,
-    height: u32,
-) -> Result<Part<'a>, NoMemory>
-    requires level { IsLevel by low.now bands }
-    requires across { (1 ≤ width) × (width ≤ 2 * low.now.width) × (width ≤ LARGEST_TABLE_SIDE) }
-    requires down { (1 ≤ height) × (height ≤ 2 * low.now.height) × (height ≤ LARGEST_TABLE_SIDE) }
-    ensures value { IfOk result (λ p. part_table p ≡ cut width height (next_low by low.now bands.entry)) }
-    ensures rows { IfOk result CanMakeRows }
-{
-    let next = wide_level(alloc, by, low, bands)?;
-    whole_part(alloc, next, width, height)
-}
-
-/// What is made of a residual before a last level whose LL band is held in 32 bits.
-fn part_of_narrow<'a>(
-    alloc: Global,
-    by: Synthesis,
-    low: Narrow,
-    bands: LevelBands<'a>,
-    width: u32,
-    height: u32,
-) -> Result<Part<'a>, NoMemory>
-    requires level { IsLevel by low bands }
-    requires across { (1 ≤ width) × (width ≤ 2 * low.width) × (width ≤ LARGEST_TABLE_SIDE) }
-    requires down { (1 ≤ height) × (height ≤ 2 * low.height) × (height ≤ LARGEST_TABLE_SIDE) }
-    ensures value { IfOk result (λ p. part_table p ≡ cut width height (next_low by low bands.entry)) }
-    ensures rows { IfOk result CanMakeRows }
-{
-    if is_narrow(low.values()) && are_narrow(bands, by.kind) && have_one_index(bands, by.counts) {
-        return Ok(Part::Lines(LastLevel {
-            low,
-            bands,
-            kind: by.kind,
-            wavelet: by.wavelet,
-            width,
-            height,
-        }));
-    }
-    let wide = low.try_wide(alloc)?;
-    part_of_wide(alloc, by, &wide, bands, width, height)
-}
-
-/// What is made of a residual before its last level.
+/// What is made of a residual before its last level: where 32 bits are enough for this, and the codeblocks of each band
+/// have its index, its rows wait.
 fn part_before<'a>(
     alloc: Global,
-    by: Synthesis,
+    level: Level<'a>,
     low: Residual,
-    bands: LevelBands<'a>,
     width: u32,
     height: u32,
 ) -> Result<Part<'a>, NoMemory>
-    requires level { IsLevel by low bands }
+    requires level { IsLevel level.by low level.bands }
     requires across { (1 ≤ width) × (width ≤ 2 * low.width) × (width ≤ LARGEST_TABLE_SIDE) }
     requires down { (1 ≤ height) × (height ≤ 2 * low.height) × (height ≤ LARGEST_TABLE_SIDE) }
-    ensures value { IfOk result (λ p. part_table p ≡ cut width height (next_low by low bands.entry)) }
+    ensures value { IfOk result (λ p. part_table p ≡ cut width height
+        (next_low level.entry.by low level.entry.bands)) }
     ensures rows { IfOk result CanMakeRows }
 {
     match low.into_held() {
-        Held::Narrow(low) => part_of_narrow(alloc, by, low, bands, width, height),
-        Held::Wide(low) => part_of_wide(alloc, by, &low, bands, width, height),
+        Held::Narrow(low) => {
+            let bands = level.bands;
+            let by = level.by;
+            if is_narrow(low.values())
+                && are_narrow(bands, by.kind)
+                && have_one_index(bands, by.counts)
+            {
+                return Ok(Part::Lines(LastLevel {
+                    low,
+                    bands,
+                    kind: by.kind,
+                    wavelet: by.wavelet,
+                    width,
+                    height,
+                }));
+            }
+            whole_part(alloc, level, &Residual::of_narrow(low), width, height)
+        }
+        Held::Wide(low) => whole_part(alloc, level, &Residual::of_wide(low), width, height),
     }
 }
 
@@ -146,29 +120,19 @@ fn first_part<'a>(
     requires levels { length transform.now.counts ≡ transform.now.depth + 1 }
     requires across { (1 ≤ width) × (width ≤ LARGEST_TABLE_SIDE) }
     requires down { (1 ≤ height) × (height ≤ LARGEST_TABLE_SIDE) }
-    requires bands { AreBandsOf transform.now width height bands.now }
+    requires bands { AreRestorableBands transform.now width height bands.now }
     ensures value { IfOk result (λ p. part_table p ≡ residual transform.now kind bands.now width height) }
     ensures bound { IfOk result (λ p. All (λ v. unsigned_abs v ≤ 2 ^ 108) (part_table p).values) }
     ensures rows { IfOk result CanMakeRows }
 {
-    if transform.depth == 0 || have_zeros_alone(bands) {
+    if have_zeros_alone(bands) {
         let whole = plane_residual(alloc, transform, kind, bands, width, height)?;
         return Ok(Part::Whole(whole));
     }
     let last = transform.depth - 1;
     let low = low_after(alloc, transform, kind, bands, width, height, last)?;
-    let by = Synthesis {
-        wavelet: transform.wavelet,
-        kind,
-        counts: transform.counts.at(last + 1),
-    };
-    let n = last as usize;
-    let beside = LevelBands {
-        hl: &bands[3 * n + 1],
-        lh: &bands[3 * n + 2],
-        hh: &bands[3 * n + 3],
-    };
-    part_before(alloc, by, low, beside, width, height)
+    let level = level_of(transform, kind, bands, last as usize);
+    part_before(alloc, level, low, width, height)
 }
 
 /// The residual of a plane of `width` by `height` samples from its subbands, which stand in the order LL, then HL, LH
@@ -187,7 +151,7 @@ pub fn unfinished_residual<'a>(
     requires levels { length transform.now.counts ≡ transform.now.depth + 1 }
     requires across { (1 ≤ width) × (width ≤ LARGEST_TABLE_SIDE) }
     requires down { (1 ≤ height) × (height ≤ LARGEST_TABLE_SIDE) }
-    requires bands { AreBandsOf transform.now width height bands.now }
+    requires bands { AreRestorableBands transform.now width height bands.now }
     ensures { IfOk result (λ u. u ≡ residual transform.now kind bands.now width height) }
 {
     let part = first_part(alloc, transform, kind, bands, width, height)?;
@@ -196,7 +160,7 @@ pub fn unfinished_residual<'a>(
 
 /// Rows `from` to `to` of a residual of which something is made.
 fn rows_of_part(alloc: Global, part: &Part<'_>, from: u32, to: u32) -> Result<Residual, NoMemory>
-    requires part { IsPart part.now }
+    requires part { IsUnfinishedPart part.now }
     requires some { from < to }
     requires inside { to ≤ (part_table part.now).height }
     ensures { IfOk result (λ t. t ≡ rows_between from to (part_table part.now)) }
@@ -223,7 +187,7 @@ impl<'a> Unfinished<'a> {
     /// Lends what is made of it.
     pub(crate) fn part(&self) -> &Part<'a>
         ensures value { part_table result.now ≡ self.now }
-        ensures lawful { IsPart result.now }
+        ensures lawful { IsUnfinishedPart result.now }
     {
         &self.part
     }

@@ -1,5 +1,5 @@
 ghost use Rattle.std.specs.Prelude.{◌≡◌, ◌≤◌, OnOk, OnErr};
-ghost use Rattle.dirac_types.specs.Names.{text_of};
+ghost use Rattle.dirac_types.specs.Names.{setting_text};
 ghost use Rattle.dirac_types.specs.Settings as settings;
 
 use crate::ranges::{first_bad, format_of, table};
@@ -41,7 +41,7 @@ pub enum Name {
 impl Name {
     /// The setting's word, as it stands on the command line without its dashes.
     pub fn text(self) -> &'static str
-        ensures { result.now ≡ text_of self }
+        ensures { result.now ≡ setting_text self }
     {
         match self {
             Name::Base => "base",

@@ -16,8 +16,8 @@ pub record UnitText : Type 0 where
   pub payload : List ℕ
 
 -- where the first unit of an input begins
-abbrev pub start : UnitPlace
-start = record { index = 0; at = 0; closed = false }
+abbrev pub first_unit_place : UnitPlace
+first_unit_place = record { index = 0; at = 0; closed = false }
 
 -- where the next unit begins
 abbrev pub after : UnitPlace → ParseInfo → UnitPlace

@@ -11,17 +11,17 @@ use Rattle.dirac_units.specs.declared.unit.Unit.{Unit}
 use Rattle.dirac_units.specs.declared.unit.UnitStep.{UnitStep}
 use Rattle.dirac_units.specs.declared.unit.UnitStep.TheVariants as step
 use Rattle.dirac_units.specs.Info.{IsLawful, fields_are_read, span_of}
-use Rattle.dirac_units.specs.Cut.{start, after, front_of}
+use Rattle.dirac_units.specs.Cut.{first_unit_place, after, front_of}
 
 -- the bytes taken beyond the units given, where the next unit begins, and what later calls answer
-pub record Progress : Type 0 where
+pub record CuttingProgress : Type 0 where
   pub ahead : List ℕ
   pub unit_place : UnitPlace
   pub stream_end : StreamEnd
 
 -- before the first unit
-abbrev pub begun : Progress
-begun = record { ahead = []; unit_place = start; stream_end = stream_end.Going }
+abbrev pub cutting_begun : CuttingProgress
+cutting_begun = record { ahead = []; unit_place = first_unit_place; stream_end = stream_end.Going }
 
 -- the payload of the unit at the front, where it is kept
 abbrev pub kept_payload : Bool → ParseInfo → List ℕ → List ℕ
@@ -34,18 +34,19 @@ IsFirstUnit keep unit unit_place bytes rest =
     × (rest ≡ Some (drop (span_of unit.info) bytes))
 
 -- the next unit was given: the bytes ahead, then those held, begin with it
-pub record GivesUnit (keep : Bool) (unit : Unit) (old new : Progress) (held held' : Option (List ℕ)) : Type 0 where
-  pub going : old.stream_end ≡ stream_end.Going
-  pub index : unit.index ≡ old.unit_place.index
-  pub at : unit.at ≡ old.unit_place.at
-  pub lawful : IsLawful unit.info
-  pub short : length unit.payload + 13 ≤ span_of unit.info
-  pub next : new.unit_place ≡ after old.unit_place unit.info
-  pub told : IfSome (prepend_known old.ahead held) (λ bytes. IsFirstUnit keep unit old.unit_place bytes
-      (prepend_known new.ahead held'))
+pub record GivesUnit (keep : Bool) (unit : Unit) (old new : CuttingProgress) (held held' : Option (List ℕ)) : Type 0
+  where
+    pub going : old.stream_end ≡ stream_end.Going
+    pub index : unit.index ≡ old.unit_place.index
+    pub at : unit.at ≡ old.unit_place.at
+    pub lawful : IsLawful unit.info
+    pub short : length unit.payload + 13 ≤ span_of unit.info
+    pub next : new.unit_place ≡ after old.unit_place unit.info
+    pub told : IfSome (prepend_known old.ahead held) (λ bytes. IsFirstUnit keep unit old.unit_place bytes
+        (prepend_known new.ahead held'))
 
 -- the source holds exactly what follows this unit
-abbrev pub HoldsWhatFollows : Unit → Progress → Option (List ℕ) → Option (List ℕ) → Type 0
+abbrev pub HoldsWhatFollows : Unit → CuttingProgress → Option (List ℕ) → Option (List ℕ) → Type 0
 HoldsWhatFollows unit old held held' =
     IfSome (prepend_known old.ahead held) (λ bytes. held' ≡ Some (drop (span_of unit.info) bytes))
 
@@ -59,17 +60,17 @@ pub record IsPartTaken (unit_place : UnitPlace) (end : Option Fault) (bytes : Li
   pub holds : held' ≡ Some rest
 
 -- so it is, with some end or fault, with the bytes ahead and those held
-abbrev pub TakesPart : Progress → Option (List ℕ) → Option (List ℕ) → Type 0
+abbrev pub TakesPart : CuttingProgress → Option (List ℕ) → Option (List ℕ) → Type 0
 TakesPart old held held' =
     IfSome (prepend_known old.ahead held) (λ bytes. (end : Option Fault) × IsPartTaken old.unit_place end bytes held')
 
 -- some of the bytes ahead and those held were taken, and just the others are held
-abbrev pub TakesSome : Progress → Option (List ℕ) → Option (List ℕ) → Type 0
+abbrev pub TakesSome : CuttingProgress → Option (List ℕ) → Option (List ℕ) → Type 0
 TakesSome old held held' = (part : List ℕ) × Consumes (prepend_known old.ahead held) held' part
 
 -- no unit is left, but this end or fault, which stands in what was taken too; at the lawful end the source was read to
 -- its end
-pub record Ends (old : Progress) (held held' : Option (List ℕ)) (end : Option Fault) : Type 0 where
+pub record Ends (old : CuttingProgress) (held held' : Option (List ℕ)) (end : Option Fault) : Type 0 where
   pub told : IfSome (prepend_known old.ahead held) (λ bytes. front_of old.unit_place bytes ≡ Err end)
   pub whole : end ≡ None → IsAtEnd held'
   pub taken : IfSome (prepend_known old.ahead held) (λ bytes. IsPartTaken old.unit_place end bytes held')

@@ -14,11 +14,11 @@ pub struct UnitPlace {
 }
 
 impl UnitPlace {
-    ghost use Rattle.dirac_units.specs.Cut.{start, after, fault_at};
+    ghost use Rattle.dirac_units.specs.Cut.{first_unit_place, after, fault_at};
 
     /// Where the first unit of an input begins.
     pub fn first() -> UnitPlace
-        ensures { result ≡ start }
+        ensures { result ≡ first_unit_place }
     {
         UnitPlace {
             index: 0,

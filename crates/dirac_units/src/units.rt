@@ -1,6 +1,7 @@
 ghost use Rattle.std.specs.Prelude.{◌≡◌, ℕ, ◌+◌, ◌<◌, ◌≤◌, ◌^◌, length, [], Option, None, Some};
 ghost use Rattle.dirac_io.specs.Faults.{Rose};
-ghost use Rattle.dirac_units.specs.Progress.{begun, Ends, GivesUnit, HoldsWhatFollows, IfUnit, met_after, Repeats};
+ghost use Rattle.dirac_units.specs.Progress.{cutting_begun, Ends, GivesUnit, HoldsWhatFollows, IfUnit, met_after};
+ghost use Rattle.dirac_units.specs.Progress.{Repeats};
 ghost use Rattle.dirac_units.specs.Progress.{TakesPart, TakesSome};
 
 use crate::take::{NoUnit, take_unit};
@@ -21,9 +22,9 @@ pub struct Units {
 
 impl Model for Units {
     ghost use Rattle.std.specs.Prelude.{◌≤◌, []};
-    ghost use Rattle.dirac_units.specs.Progress.{Progress};
+    ghost use Rattle.dirac_units.specs.Progress.{CuttingProgress};
 
-    ghost Value = { Progress };
+    ghost Value = { CuttingProgress };
 
     ghost view = { λ u. record { ahead = []; unit_place = u.unit_place; stream_end = u.stream_end } };
 
@@ -32,7 +33,7 @@ impl Model for Units {
 
 impl Units {
     pub fn new(alloc: Global) -> Units
-        ensures { result ≡ begun }
+        ensures { result ≡ cutting_begun }
     {
         Units {
             alloc,

@@ -5,7 +5,7 @@ use Rattle.std.proofs.lemmas.Int.{ints, clamps}
 use Rattle.std.proofs.lemmas.List.{get_or-set_same, get_or-set_other}
 use Rattle.std.proofs.lemmas.Bool.{cases_eq, cases_lt, ne_eqb}
 use Rattle.dirac_common.specs.Samples.{clip}
-use Rattle.dirac_upconvert.specs.HalfSamples.{IsSample, between, weighted, half_behind, doubled_at}
+use Rattle.dirac_upconvert.specs.HalfSamples.{IsSample, half_between, weighted_pairs, half_behind, doubled_at}
 use Rattle.dirac_upconvert.specs.Phases.{place_in_row}
 use Rattle.dirac_upconvert.specs.SubSamples.{PutFrom}
 use Rattle.dirac_upconvert.proofs.Phased.{place_even, place_odd}
@@ -94,10 +94,10 @@ doubled_same f g last p e h = elim (cases_eq (p % 2) 0) [
 clipped_sample : (v : ℤ) → IsSample (clip v)
 clipped_sample v = record { least = omega (arith, ints, clamps); most = omega (arith, ints, clamps) }
 
-pub between_sample : (a3 a2 a1 a0 b0 b1 b2 b3 : ℤ) → IsSample (between a3 a2 a1 a0 b0 b1 b2 b3)
-unfolding between
+pub between_sample : (a3 a2 a1 a0 b0 b1 b2 b3 : ℤ) → IsSample (half_between a3 a2 a1 a0 b0 b1 b2 b3)
+unfolding half_between
 between_sample a3 a2 a1 a0 b0 b1 b2 b3 =
-    clipped_sample (int_shr (weighted (a0 +ℤ b0) (a1 +ℤ b1) (a2 +ℤ b2) (a3 +ℤ b3) +ℤ pos 16) 5)
+    clipped_sample (int_shr (weighted_pairs (a0 +ℤ b0) (a1 +ℤ b1) (a2 +ℤ b2) (a3 +ℤ b3) +ℤ pos 16) 5)
 
 -- so are the half samples of samples
 pub doubled_sample : (f : ℕ → ℤ) (last p : ℕ) → ((k : ℕ) → IsSample (f k)) → IsSample (doubled_at f last p)

@@ -8,7 +8,7 @@ use Rattle.std.proofs.Math.IntN.{zero-*ℤ, *ℤ-zero}
 use lib.Signed.{shr_z}
 use Rattle.dirac_common.specs.Table.{Table, clamped_at, clamped_to, table_at}
 use Rattle.dirac_upconvert.specs.Phases.{place_in_row}
-use Rattle.dirac_upconvert.specs.SubSamples.{AreParts, ArePlaces, IsRest, between_sides, bilinear, four, part_sample, place_at, rest_at, rounded}
+use Rattle.dirac_upconvert.specs.SubSamples.{AreAlternateSubSamples, AreAlternateSamples, IsRest, between_sides, bilinear, sum_of_four, part_sample, place_at, rest_at, rounded}
 use Rattle.dirac_upconvert.proofs.Phased.{held_more}
 use Rattle.dirac_upconvert.proofs.Mixing.{remainder_is, remainder_rest}
 
@@ -65,7 +65,7 @@ first_of_four : (m n : ℕ) (a b c d : ℤ) → (pos m *ℤ (pos m *ℤ a) +ℤ 
 first_of_four m n a b c d =
     rw (zero-*ℤ b, zero-*ℤ (pos m *ℤ c), zero-*ℤ (pos 0 *ℤ d), *ℤ-zero (pos m)) (omega (arith, ints))
 
-pub four_at_place : (bits : ℕ) (v00 v10 v01 v11 : ℤ) → bits ≤ 2 → rounded (2 * bits) (four (2 ^ bits) (pos 0) (pos 0) v00 v10 v01 v11) ≡ v00
+pub four_at_place : (bits : ℕ) (v00 v10 v01 v11 : ℤ) → bits ≤ 2 → rounded (2 * bits) (sum_of_four (2 ^ bits) (pos 0) (pos 0) v00 v10 v01 v11) ≡ v00
 four_at_place zero v00 v10 v01 v11 few = by_one _ v00 (first_of_four 1 0 v00 v10 v01 v11 ∙ times v00) where
   times : (v : ℤ) → pos 1 *ℤ (pos 1 *ℤ v) +ℤ pos 0 ≡ v
   times v = omega (arith, ints)
@@ -77,7 +77,7 @@ four_at_place (suc (suc zero)) v00 v10 v01 v11 few = by_sixteen _ v00 (first_of_
   times v = omega (arith, ints)
 four_at_place (suc (suc (suc bits))) v00 v10 v01 v11 few = absurd (omega arith)
 
-pub parts_at_places : (t : Table) (bits : ℕ) (across down right below : ℤ) (out : List ℤ) → bits ≤ 2 → right ≡ pos 0 → below ≡ pos 0 → ArePlaces t across down out → AreParts t bits across down right below out
+pub parts_at_places : (t : Table) (bits : ℕ) (across down right below : ℤ) (out : List ℤ) → bits ≤ 2 → right ≡ pos 0 → below ≡ pos 0 → AreAlternateSamples t across down out → AreAlternateSubSamples t bits across down right below out
 parts_at_places t bits across down right below out few er eb h k l =
     h k l
     ∙ sym (four_at_place bits (clamped_at t (across +ℤ pos (2 * k)) down) (clamped_at t ((across +ℤ pos (2 * k)) +ℤ pos 1) down)
@@ -103,12 +103,12 @@ written_more f out n m v h fits next e k l = elim (cases_eq k n) [
 ]
 
 -- rows of which all is told
-pub places_told : (t : Table) (a b p q : ℤ) (out : List ℤ) (n : ℕ) → ((k : ℕ) → k < n → get_or out k (pos 0) ≡ clamped_at t (a +ℤ pos (2 * k)) b) → length out ≤ n → a ≡ p → b ≡ q → ArePlaces t p q out
+pub places_told : (t : Table) (a b p q : ℤ) (out : List ℤ) (n : ℕ) → ((k : ℕ) → k < n → get_or out k (pos 0) ≡ clamped_at t (a +ℤ pos (2 * k)) b) → length out ≤ n → a ≡ p → b ≡ q → AreAlternateSamples t p q out
 places_told t a b p q out n h all ea eb k l =
     h k (omega arith) ∙ ap (λ z. clamped_at t (z +ℤ pos (2 * k)) b) ea ∙ ap (λ z. clamped_at t (p +ℤ pos (2 * k)) z) eb
 
 pub parts_told : (t : Table) (bits : ℕ) (a b c d p q r s : ℤ) (out : List ℤ) (n : ℕ) → ((k : ℕ) → k < n → get_or out k (pos 0) ≡ rounded (2 * bits) (bilinear t (2 ^ bits) (a +ℤ pos (2 * k)) b c d)) → length out ≤ n
-    → a ≡ p → b ≡ q → c ≡ r → d ≡ s → AreParts t bits p q r s out
+    → a ≡ p → b ≡ q → c ≡ r → d ≡ s → AreAlternateSubSamples t bits p q r s out
 parts_told t bits a b c d p q r s out n h all ea eb ec ed k l =
     h k (omega arith)
     ∙ ap (λ z. rounded (2 * bits) (bilinear t (2 ^ bits) (z +ℤ pos (2 * k)) b c d)) ea
@@ -119,7 +119,7 @@ parts_told t bits a b c d p q r s out n h all ea eb ec ed k l =
 -- rows of places that are read from a row of the table
 pub places_inside : (t : Table) (across down : ℤ) (row out : List ℤ) (at left : ℕ)
     → ((j : ℕ) → j < t.width → get_or row (place_in_row (length row) j) (pos 0) ≡ table_at t j (clamped_to down t.height)) → across ≡ pos at → at + 2 * length out ≤ t.width → left ≡ place_in_row (length row) at
-    → ((k : ℕ) → k < length out → get_or out k (pos 0) ≡ get_or row (left + k) (pos 0)) → ArePlaces t across down out
+    → ((k : ℕ) → k < length out → get_or out k (pos 0) ≡ get_or row (left + k) (pos 0)) → AreAlternateSamples t across down out
 places_inside t across down row out at left h e fits el all k l =
     let here : across +ℤ pos (2 * k) ≡ pos (at + 2 * k) = omega (arith, ints) in
     all k l ∙ row_place t row (across +ℤ pos (2 * k)) down (at + 2 * k) (left + k) h (omega (arith, el, held_more (length row) at k (at + 2 * k) refl)) here (omega arith)
@@ -129,7 +129,7 @@ pub parts_inside : (t : Table) (bits : ℕ) (across down right below : ℤ) (abo
     → ((j : ℕ) → j < t.width → get_or above (place_in_row (length above) j) (pos 0) ≡ table_at t j (clamped_to down t.height))
     → ((j : ℕ) → j < t.width → get_or under (place_in_row (length under) j) (pos 0) ≡ table_at t j (clamped_to (down +ℤ pos 1) t.height))
     → length under ≡ length above → across ≡ pos at → at + 2 * length out ≤ t.width → left ≡ place_in_row (length above) at → next ≡ place_in_row (length above) (at + 1)
-    → ((k : ℕ) → k < length out → get_or out k (pos 0) ≡ between_sides bits right below above under (left + k) (next + k)) → AreParts t bits across down right below out
+    → ((k : ℕ) → k < length out → get_or out k (pos 0) ≡ between_sides bits right below above under (left + k) (next + k)) → AreAlternateSubSamples t bits across down right below out
 parts_inside t bits across down right below above under out at left next ha hu same e fits el en h k l =
     let here : across +ℤ pos (2 * k) ≡ pos (at + 2 * k) = omega (arith, ints) in
     let beside : (across +ℤ pos (2 * k)) +ℤ pos 1 ≡ pos (at + 2 * k + 1) = omega (arith, ints) in

@@ -6,7 +6,7 @@ use Rattle.std.proofs.lemmas.Int.{ints}
 use Rattle.std.proofs.lemmas.Nat.{pow_pos}
 use Rattle.dirac_common.specs.Table.{Table, clamped_at}
 use Rattle.dirac_upconvert.specs.HalfSamples.{IsSample}
-use Rattle.dirac_upconvert.specs.SubSamples.{AreParts, ArePartsByFour, ArePartsByRows, ArePlaces, IsRest, IsWithin, Up, bilinear, part_sample, place_at, rest_at, rounded, sub_sample}
+use Rattle.dirac_upconvert.specs.SubSamples.{AreAlternateSubSamples, ArePartsByFour, ArePartsByRows, AreAlternateSamples, IsRest, IsWithin, Up, bilinear, part_sample, place_at, rest_at, rounded, sub_sample}
 use Rattle.dirac_upconvert.proofs.Halves.{all_samples, clamped_sample}
 use Rattle.dirac_upconvert.proofs.PartRows.{four_at_place, part_more, place_more, rest_more}
 use Rattle.dirac_upconvert.proofs.Mixing.{four_products, mixed_within, remainder_is, remainder_rest, rounded_sample, sample_within}
@@ -35,7 +35,7 @@ sub_sample_is up precision x y few h = elim (cases_eq precision 0) [
 ]
 
 -- rows of places and of parts are rows of samples
-pub row_of_places : (up : Up) (precision : ℕ) (x y : ℤ) (out : List ℤ) → precision ≡ 0 → ArePlaces up.table (pos 2 *ℤ x) (pos 2 *ℤ y) out
+pub row_of_places : (up : Up) (precision : ℕ) (x y : ℤ) (out : List ℤ) → precision ≡ 0 → AreAlternateSamples up.table (pos 2 *ℤ x) (pos 2 *ℤ y) out
     → (k : ℕ) → k < length out → get_or out k (pos 0) ≡ sub_sample up precision (x +ℤ pos (2 ^ precision * k)) y
 row_of_places up precision x y out e h k l =
     subst (λ (q : ℕ). get_or out k (pos 0) ≡ sub_sample up q (x +ℤ pos (2 ^ q * k)) y) (sym e)
@@ -44,7 +44,7 @@ row_of_places up precision x y out e h k l =
     twice_more : (p : ℤ) (n : ℕ) → pos 2 *ℤ p +ℤ pos (2 * n) ≡ pos 2 *ℤ (p +ℤ pos (2 ^ 0 * n))
     twice_more p n = omega (arith, ints)
 
-pub row_of_parts : (up : Up) (precision bits : ℕ) (x y : ℤ) (out : List ℤ) → bits ≤ 2 → precision ≡ bits + 1 → AreParts up.table bits (place_at x bits) (place_at y bits) (rest_at x bits) (rest_at y bits) out
+pub row_of_parts : (up : Up) (precision bits : ℕ) (x y : ℤ) (out : List ℤ) → bits ≤ 2 → precision ≡ bits + 1 → AreAlternateSubSamples up.table bits (place_at x bits) (place_at y bits) (rest_at x bits) (rest_at y bits) out
     → (k : ℕ) → k < length out → get_or out k (pos 0) ≡ sub_sample up precision (x +ℤ pos (2 ^ precision * k)) y
 row_of_parts up precision bits x y out few e h k l =
     let less : precision - 1 ≡ bits = omega arith in

@@ -3,7 +3,7 @@ use Rattle.std.specs.Prelude.{◌≡◌, ℕ, ℤ, pos, List, length, slice_inde
 use Rattle.std.specs.Borrow.{Bor}
 use Rattle.std.specs.List.{All}
 use Rattle.dirac_upconvert.specs.declared.half_sample.Around.{Around}
-use Rattle.dirac_upconvert.specs.HalfSamples.{IsSample, between}
+use Rattle.dirac_upconvert.specs.HalfSamples.{IsSample, half_between}
 
 -- all are samples
 pub record AreSamplesAround (of : Around ℤ) : Type 0 where
@@ -18,7 +18,7 @@ pub record AreSamplesAround (of : Around ℤ) : Type 0 where
 
 -- the half sample between them
 abbrev pub between_those : Around ℤ → ℤ
-between_those of = between of.a3 of.a2 of.a1 of.a0 of.b0 of.b1 of.b2 of.b3
+between_those of = half_between of.a3 of.a2 of.a1 of.a0 of.b0 of.b1 of.b2 of.b3
 
 -- a row of that many samples
 pub record IsRowOf (count : ℕ) (row : List ℤ) : Type 0 where
@@ -39,6 +39,6 @@ pub record AreRowsAround (count : ℕ) (of : Around (Bor (List ℤ))) : Type 0 w
 -- the half sample between them in a column
 abbrev pub between_rows_at : Around (Bor (List ℤ)) → ℕ → ℤ
 between_rows_at of x =
-    between (slice_index_or of.a3.now x (pos 0)) (slice_index_or of.a2.now x (pos 0))
+    half_between (slice_index_or of.a3.now x (pos 0)) (slice_index_or of.a2.now x (pos 0))
     (slice_index_or of.a1.now x (pos 0)) (slice_index_or of.a0.now x (pos 0)) (slice_index_or of.b0.now x (pos 0))
     (slice_index_or of.b1.now x (pos 0)) (slice_index_or of.b2.now x (pos 0)) (slice_index_or of.b3.now x (pos 0))

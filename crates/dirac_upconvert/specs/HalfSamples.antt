@@ -11,18 +11,18 @@ pub record IsSample (v : ℤ) : Type 0 where
   pub most : v ≤ℤ pos 127
 
 -- the weighted sum of four pairs, from the inner to the outer
-abbrev pub weighted : ℤ → ℤ → ℤ → ℤ → ℤ
-weighted first second third fourth = (pos 21 *ℤ first -ℤ pos 7 *ℤ second) +ℤ (pos 3 *ℤ third -ℤ fourth)
+abbrev pub weighted_pairs : ℤ → ℤ → ℤ → ℤ → ℤ
+weighted_pairs first second third fourth = (pos 21 *ℤ first -ℤ pos 7 *ℤ second) +ℤ (pos 3 *ℤ third -ℤ fourth)
 
 -- the half sample between a0 and b0; the others lie further out
-unfoldable pub between : ℤ → ℤ → ℤ → ℤ → ℤ → ℤ → ℤ → ℤ → ℤ
-between a3 a2 a1 a0 b0 b1 b2 b3 =
-    clip (int_shr (weighted (a0 +ℤ b0) (a1 +ℤ b1) (a2 +ℤ b2) (a3 +ℤ b3) +ℤ pos 16) 5)
+unfoldable pub half_between : ℤ → ℤ → ℤ → ℤ → ℤ → ℤ → ℤ → ℤ → ℤ
+half_between a3 a2 a1 a0 b0 b1 b2 b3 =
+    clip (int_shr (weighted_pairs (a0 +ℤ b0) (a1 +ℤ b1) (a2 +ℤ b2) (a3 +ℤ b3) +ℤ pos 16) 5)
 
 -- the half sample behind place i of a line whose places are 0 to last; places are clamped to the line
 abbrev pub half_behind : (ℕ → ℤ) → ℕ → ℕ → ℤ
 half_behind line last i =
-    between (line (i - 3)) (line (i - 2)) (line (i - 1)) (line i)
+    half_between (line (i - 3)) (line (i - 2)) (line (i - 1)) (line i)
     (line (min (i + 1) last)) (line (min (i + 2) last)) (line (min (i + 3) last)) (line (min (i + 4) last))
 
 -- place p of a line with its half samples between: samples stand at even places

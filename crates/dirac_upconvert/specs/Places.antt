@@ -3,14 +3,14 @@ use Rattle.std.specs.Prelude.{ℕ, ℤ, pos, ◌+◌, ◌-◌, ◌*◌, ◌/◌,
 use Rattle.std.specs.Int.{int_div_euclid}
 
 -- how far a block reaches beyond its own part, on either side
-abbrev pub margin : ℕ → ℕ → ℕ
-margin length separation = (length - separation) / 2
+abbrev pub block_margin : ℕ → ℕ → ℕ
+block_margin length separation = (length - separation) / 2
 
 -- whether a block holds place x of its plane: it starts the margin before its own part
 abbrev pub holds : ℕ → ℕ → ℕ → ℕ → Bool
 holds block length separation x =
-    nat_le (block * separation) (x + margin length separation)
-    && nat_lt (x + margin length separation) (block * separation + length)
+    nat_le (block * separation) (x + block_margin length separation)
+    && nat_lt (x + block_margin length separation) (block * separation + length)
 
 -- the position, in 2 ^ precision parts of a sample, to which a vector's part in this direction leads from a place of a
 -- plane whose samples stand for `ratio` luma samples each

@@ -75,26 +75,26 @@ abbrev pub mixed : ℕ → ℤ → ℤ → ℤ → ℤ
 mixed scale rest a b = (pos scale -ℤ rest) *ℤ a +ℤ rest *ℤ b
 
 -- the sum of four samples, two above and two below, each times its two weights
-abbrev pub four : ℕ → ℤ → ℤ → ℤ → ℤ → ℤ → ℤ → ℤ
-four scale right below v00 v10 v01 v11 =
+abbrev pub sum_of_four : ℕ → ℤ → ℤ → ℤ → ℤ → ℤ → ℤ → ℤ
+sum_of_four scale right below v00 v10 v01 v11 =
     (product (pos scale -ℤ right) (pos scale -ℤ below) v00 +ℤ product right (pos scale -ℤ below) v10)
     +ℤ (product (pos scale -ℤ right) below v01 +ℤ product right below v11)
 
 -- the samples at every second place of a table's row, from a place on
-abbrev pub ArePlaces : Table → ℤ → ℤ → List ℤ → Type 0
-ArePlaces t across down out =
+abbrev pub AreAlternateSamples : Table → ℤ → ℤ → List ℤ → Type 0
+AreAlternateSamples t across down out =
     (k : ℕ) → k < length out → slice_index_or out k (pos 0) ≡ clamped_at t (across +ℤ pos (2 * k)) down
 
 -- the samples behind every second place of a row, as far behind it as a position is
-abbrev pub AreParts : Table → ℕ → ℤ → ℤ → ℤ → ℤ → List ℤ → Type 0
-AreParts t bits across down right below out =
+abbrev pub AreAlternateSubSamples : Table → ℕ → ℤ → ℤ → ℤ → ℤ → List ℤ → Type 0
+AreAlternateSubSamples t bits across down right below out =
     (k : ℕ) → k < length out → slice_index_or out k (pos 0) ≡ rounded (2 * bits)
     (bilinear t (2 ^ bits) (across +ℤ pos (2 * k)) down right below)
 
 -- the sample between those at places p and q of two rows, one above the other
 abbrev pub between_sides : ℕ → ℤ → ℤ → List ℤ → List ℤ → ℕ → ℕ → ℤ
 between_sides bits right below above under p q =
-    rounded (2 * bits) (four (2 ^ bits) right below
+    rounded (2 * bits) (sum_of_four (2 ^ bits) right below
     (slice_index_or above p (pos 0)) (slice_index_or above q (pos 0))
     (slice_index_or under p (pos 0)) (slice_index_or under q (pos 0)))
 

@@ -2,7 +2,7 @@ ghost use Rattle.std.specs.Prelude.{◌≡◌, pos, ◌+◌, ◌-◌, ◌<◌, �
 ghost use Rattle.std.specs.Int.{int_shr};
 ghost use Rattle.dirac_common.specs.Samples.{clip};
 ghost use Rattle.dirac_upconvert.specs.Around.{AreSamplesAround, between_those};
-ghost use Rattle.dirac_upconvert.specs.HalfSamples.{IsSample, weighted};
+ghost use Rattle.dirac_upconvert.specs.HalfSamples.{IsSample, weighted_pairs};
 
 #[inline(always)]
 fn pair_sum(a: i16, b: i16) -> i16
@@ -53,7 +53,7 @@ fn whole_sum(first: i16, second: i16, third: i16, fourth: i16) -> i16
     requires second { unsigned_abs second ≤ 256 }
     requires third { unsigned_abs third ≤ 256 }
     requires fourth { unsigned_abs fourth ≤ 256 }
-    ensures value { result ≡ weighted first second third fourth +ℤ pos 16 }
+    ensures value { result ≡ weighted_pairs first second third fourth +ℤ pos 16 }
     ensures bound { unsigned_abs result ≤ 8208 }
 {
     rounded_up(inner_sum(first, second), outer_sum(third, fourth))
@@ -90,7 +90,7 @@ pub struct Around<T> {
 
 /// The half sample between `a0` and `b0` (half-pixel upconversion filter, Dirac specification).
 #[inline(always)]
-#[tactic(auto, unfolding(crate::specs::HalfSamples::between))]
+#[tactic(auto, unfolding(crate::specs::HalfSamples::half_between))]
 pub fn half_sample(of: Around<i16>) -> i16
     requires { AreSamplesAround of }
     ensures value { result ≡ between_those of }

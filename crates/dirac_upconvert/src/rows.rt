@@ -5,8 +5,10 @@ ghost use Rattle.std.specs.List.{All};
 ghost use Rattle.dirac_upconvert.specs.HalfSamples.{IsSample};
 ghost use Rattle.dirac_upconvert.specs.Phases.{place_in_row};
 ghost use Rattle.dirac_upconvert.specs.Rests.{AreRests};
-ghost use Rattle.dirac_upconvert.specs.SubSamples.{AreParts, ArePartsByRows, ArePlaces, IsRest, IsWithin, PutFrom};
-ghost use Rattle.dirac_upconvert.specs.SubSamples.{between_sides, bilinear, four, mixed, place_at, rest_at, rounded};
+ghost use Rattle.dirac_upconvert.specs.SubSamples.{AreAlternateSubSamples, ArePartsByRows, AreAlternateSamples, IsRest};
+ghost use Rattle.dirac_upconvert.specs.SubSamples.{IsWithin, PutFrom};
+ghost use Rattle.dirac_upconvert.specs.SubSamples.{between_sides, bilinear, sum_of_four, mixed, place_at, rest_at};
+ghost use Rattle.dirac_upconvert.specs.SubSamples.{rounded};
 
 use crate::parts::{mix, place, rest, rounded_sum, sample};
 use crate::phases::{Phases, held_at, widened};
@@ -82,7 +84,7 @@ fn between_four(rests: Rests, v00: i16, v10: i16, v01: i16, v11: i16) -> i16
     requires v10 { IsSample v10 }
     requires v01 { IsSample v01 }
     requires v11 { IsSample v11 }
-    ensures { result ≡ rounded (2 * rests.bits) (four (2 ^ rests.bits) rests.right rests.below v00 v10 v01 v11) }
+    ensures { result ≡ rounded (2 * rests.bits) (sum_of_four (2 ^ rests.bits) rests.right rests.below v00 v10 v01 v11) }
 {
     settle(
         rests.bits,
@@ -324,7 +326,7 @@ fn copy_row(row: &[i8], at: usize, out: &mut [i16])
 fn clamped_places(table: &Phases, across: i64, down: i64, out: &mut [i16])
     requires across { unsigned_abs across ≤ 2 ^ 34 }
     requires at_most_4096 { length out.old ≤ LARGEST_SIDE }
-    ensures { ArePlaces table.now across down out.new }
+    ensures { AreAlternateSamples table.now across down out.new }
 {
     for k in 0..out.len() {
         out[k] = table.clamped(ahead(across, k), down);
@@ -344,7 +346,7 @@ fn column(across: i64) -> usize
 #[inline(always)]
 fn inner_places(table: &Phases, across: i64, down: i64, out: &mut [i16])
     requires inside { (pos 0 ≤ℤ across) × ((across +ℤ pos (2 * length out.old)) ≤ℤ pos table.now.width) }
-    ensures { ArePlaces table.now across down out.new }
+    ensures { AreAlternateSamples table.now across down out.new }
 {
     let row = table.nearest_row(down);
     copy_row(row, held_at(row.len(), column(across)), out);
@@ -356,7 +358,7 @@ pub fn places(table: &Phases, across: i64, down: i64, out: &mut [i16])
     requires samples { All IsSample table.now.values }
     requires across { unsigned_abs across ≤ 2 ^ 34 }
     requires at_most_4096 { length out.old ≤ LARGEST_SIDE }
-    ensures { ArePlaces table.now across down out.new }
+    ensures { AreAlternateSamples table.now across down out.new }
 {
     if is_inside(across, out.len(), table.width()) {
         inner_places(table, across, down, out);
@@ -392,7 +394,7 @@ fn clamped_parts(table: &Phases, rests: Rests, across: i64, down: i64, out: &mut
     requires across { unsigned_abs across ≤ 2 ^ 34 }
     requires down { unsigned_abs down ≤ 2 ^ 35 }
     requires at_most_4096 { length out.old ≤ LARGEST_SIDE }
-    ensures { AreParts table.now rests.bits across down rests.right rests.below out.new }
+    ensures { AreAlternateSubSamples table.now rests.bits across down rests.right rests.below out.new }
 {
     for k in 0..out.len() {
         out[k] = clamped_part(table, rests, ahead(across, k), down);
@@ -418,7 +420,7 @@ fn inner_parts(table: &Phases, rests: Rests, across: i64, down: i64, out: &mut [
     requires rests { AreRests rests }
     requires inside { (pos 0 ≤ℤ across) × ((across +ℤ pos (2 * length out.old)) ≤ℤ pos table.now.width) }
     requires down { unsigned_abs down ≤ 2 ^ 35 }
-    ensures { AreParts table.now rests.bits across down rests.right rests.below out.new }
+    ensures { AreAlternateSubSamples table.now rests.bits across down rests.right rests.below out.new }
 {
     let above = table.nearest_row(down);
     let under = table.nearest_row(beside(down));
@@ -439,7 +441,7 @@ pub fn row_parts(table: &Phases, rests: Rests, across: i64, down: i64, out: &mut
     requires across { unsigned_abs across ≤ 2 ^ 34 }
     requires down { unsigned_abs down ≤ 2 ^ 35 }
     requires at_most_4096 { length out.old ≤ LARGEST_SIDE }
-    ensures { AreParts table.now rests.bits across down rests.right rests.below out.new }
+    ensures { AreAlternateSubSamples table.now rests.bits across down rests.right rests.below out.new }
 {
     if rests.right == 0 && rests.below == 0 {
         places(table, across, down, out);
@@ -594,7 +596,8 @@ pub fn parts(table: &Phases, bits: u32, x: i64, y: i64, out: &mut [i16])
     requires x { unsigned_abs x < 2 ^ 34 }
     requires y { unsigned_abs y < 2 ^ 34 }
     requires at_most_4096 { length out.old ≤ LARGEST_SIDE }
-    ensures { AreParts table.now bits (place_at x bits) (place_at y bits) (rest_at x bits) (rest_at y bits) out.new }
+    ensures { AreAlternateSubSamples table.now bits (place_at x bits) (place_at y bits) (rest_at x bits)
+        (rest_at y bits) out.new }
 {
     let rests = rests_of(bits, x, y);
     row_parts(table, rests, place(x, bits), place(y, bits), out);

@@ -1,11 +1,11 @@
 -- What C is told of an answer.
 use Rattle.std.proofs.Common.{◌≡◌, ℤ}
 use Rattle.dirac_push.specs.declared.answer.Answer.{Answer}
-use Rattle.dirac_push.specs.Pushing.{PushGives, Pushed, Repeats, TakesUnits}
+use Rattle.dirac_push.specs.Pushing.{PushGives, Pushed, RepeatsAnswer, TakesUnits}
 use Rattle.jevmutzal.specs.declared.structs.Frame.{Frame}
-use Rattle.jevmutzal.specs.Describing.{TellsNext, frame_of}
+use Rattle.jevmutzal.specs.Describing.{TellsNext, frame_told}
 use Rattle.jevmutzal.specs.Numbers.{number_of_answer}
 
-pub tells : (answer : Answer) (code : ℤ) (frame : Frame) (old new : Pushed) → code ≡ number_of_answer answer → frame ≡ frame_of answer new.shown
-    → PushGives answer old new → Repeats answer old new → TakesUnits old new → TellsNext code frame old new
+pub tells : (answer : Answer) (code : ℤ) (frame : Frame) (old new : Pushed) → code ≡ number_of_answer answer → frame ≡ frame_told answer new.shown
+    → PushGives answer old new → RepeatsAnswer answer old new → TakesUnits old new → TellsNext code frame old new
 tells answer code frame old new number is gives repeats takes = (answer, number, is, gives, repeats, takes)

@@ -9,7 +9,7 @@ use Rattle.dirac_sequence_header.specs.declared.sequence.Sequence.{Sequence}
 use Rattle.dirac_push.specs.declared.answer.Answer.{Answer}
 use Rattle.dirac_push.specs.declared.answer.Answer.TheVariants as answers
 use Rattle.dirac_push.specs.Laid.{HasRoom, IsLaid}
-use Rattle.dirac_push.specs.Pushing.{PushGives, Pushed, Repeats, TakesUnits}
+use Rattle.dirac_push.specs.Pushing.{PushGives, Pushed, RepeatsAnswer, TakesUnits}
 use Rattle.jevmutzal.specs.declared.codes.TheConstants.{NO_PICTURE, OK, SMALL, UNKNOWN}
 use Rattle.jevmutzal.specs.declared.structs.Format.{Format}
 use Rattle.jevmutzal.specs.declared.structs.Frame.{Frame}
@@ -49,20 +49,20 @@ shown_frame None = empty_frame
 shown_frame (Some p) = picture_frame p
 
 -- what is told of an answer
-abbrev pub frame_of : Answer → Option Picture → Frame
-frame_of answers.Shown shown = shown_frame shown
-frame_of answers.Needs shown = empty_frame
-frame_of answers.End shown = empty_frame
-frame_of (answers.Fault fault) shown = fault_frame fault
-frame_of answers.NoMemory shown = empty_frame
-frame_of answers.Stopped shown = empty_frame
+abbrev pub frame_told : Answer → Option Picture → Frame
+frame_told answers.Shown shown = shown_frame shown
+frame_told answers.Needs shown = empty_frame
+frame_told answers.End shown = empty_frame
+frame_told (answers.Fault fault) shown = fault_frame fault
+frame_told answers.NoMemory shown = empty_frame
+frame_told answers.Stopped shown = empty_frame
 
 -- a number and a frame tell an answer that the decoder gave; the end, a fault and a stop are told again; the format
 -- is that of the sequence opened last among the units taken
 abbrev pub TellsNext : ℤ → Frame → Pushed → Pushed → Type 0
 TellsNext code frame old new =
-    (answer : Answer) × (code ≡ number_of_answer answer) × (frame ≡ frame_of answer new.shown)
-    × PushGives answer old new × Repeats answer old new × TakesUnits old new
+    (answer : Answer) × (code ≡ number_of_answer answer) × (frame ≡ frame_told answer new.shown)
+    × PushGives answer old new × RepeatsAnswer answer old new × TakesUnits old new
 
 -- the number of a chroma format, as sequence headers have it
 abbrev pub chroma_number : Chroma → ℕ
@@ -75,8 +75,8 @@ abbrev pub bit_of : Bool → ℕ
 bit_of b = if b then 1 else 0
 
 -- what is told of a sequence
-abbrev pub format_of : Sequence → Format
-format_of s = record {
+abbrev pub format_told : Sequence → Format
+format_told s = record {
   width = s.width;
   height = s.height;
   chroma = chroma_number s.chroma;
@@ -100,7 +100,7 @@ format_of s = record {
 -- a number and a format tell the sequence, where one is known; else the format stays
 abbrev pub TellsFormat : Option Sequence → ℤ → Format → Format → Type 0
 TellsFormat None code old new = (code ≡ NO_PICTURE) × (new ≡ old)
-TellsFormat (Some s) code old new = (code ≡ OK) × (new ≡ format_of s)
+TellsFormat (Some s) code old new = (code ≡ OK) × (new ≡ format_told s)
 
 -- the planes of a picture by number: Y, U, V
 abbrev pub plane_numbered : Picture → ℕ → Option Table

@@ -2,7 +2,7 @@
 use Rattle.std.specs.Prelude.{◌≡◌, ℕ, ◌+◌, ℤ, ◌<◌, ◌++◌, ◌⊎◌, false, true, List, [], length, drop}
 use Rattle.dirac_common.specs.declared.faults.Cause.{Cause}
 use Rattle.dirac_types.specs.Causes.{name_of}
-use Rattle.dirac_push.specs.Pushing.{Passes, Pushed}
+use Rattle.dirac_push.specs.Pushing.{PushPasses, Pushed}
 use Rattle.jevmutzal.specs.declared.codes.TheConstants.{FINISHED, NO_MEMORY, OK}
 use Rattle.jevmutzal.specs.Numbers.{number_of_cause}
 
@@ -10,7 +10,7 @@ use Rattle.jevmutzal.specs.Numbers.{number_of_cause}
 -- they weren't, nothing changed
 abbrev pub TellsSent : ℤ → List ℕ → Pushed → Pushed → Type 0
 TellsSent code bytes old new =
-    (code ≡ OK) × (old.is_finished ≡ false) × Passes old new bytes []
+    (code ≡ OK) × (old.is_finished ≡ false) × PushPasses old new bytes []
     × (new ≡ record old { there = old.there ++ bytes; room = new.room }) × (new.room + length bytes ≡ old.room)
     ⊎ (code ≡ NO_MEMORY) × (old.is_finished ≡ false) × (new ≡ old)
     ⊎ (code ≡ FINISHED) × (old.is_finished ≡ true) × (new ≡ old)

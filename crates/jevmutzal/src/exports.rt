@@ -2,9 +2,9 @@
 ghost use Rattle.std.specs.Prelude.{◌≡◌, ◌⊎◌, true, false, option_map};
 ghost use Rattle.std.specs.Borrow.{Bor};
 ghost use Rattle.dirac_common.specs.Table.{Table};
-ghost use Rattle.dirac_push.specs.Pushing.{begun};
+ghost use Rattle.dirac_push.specs.Pushing.{push_begun};
 ghost use Rattle.jevmutzal.specs.Describing.{CopiesShown, TellsFormat, TellsNext, empty_frame};
-ghost use Rattle.jevmutzal.specs.Describing.{frame_of as told, plane_numbered as numbered, shown_frame as shown};
+ghost use Rattle.jevmutzal.specs.Describing.{frame_told, plane_numbered as numbered, shown_frame as shown};
 ghost use Rattle.jevmutzal.specs.Numbers.{number_of_answer};
 ghost use Rattle.jevmutzal.specs.Sending.{TellsSent, WritesName};
 
@@ -33,7 +33,7 @@ pub extern "C" fn jev_version() -> u32
 #[unsafe(no_mangle)]
 pub extern "C" fn jev_decoder_open(alloc: Global, decoder: &mut Handle) -> i32
     ensures either { (result ≡ OK) ⊎ (result ≡ NO_MEMORY) }
-    ensures opened { result ≡ OK → (decoder.new.is_open ≡ true) × (decoder.new.decoder ≡ begun) }
+    ensures opened { result ≡ OK → (decoder.new.is_open ≡ true) × (decoder.new.decoder ≡ push_begun) }
     ensures no_memory { result ≡ NO_MEMORY → decoder.new ≡ decoder.old }
 {
     match Box::new(alloc, PushDecoder::new(alloc)) {
@@ -212,7 +212,7 @@ fn code_of(answer: Answer) -> i32
 
 /// What is told of an answer.
 fn frame_of(answer: Answer, decoder: &PushDecoder) -> Frame
-    ensures { result ≡ told answer decoder.now.shown }
+    ensures { result ≡ frame_told answer decoder.now.shown }
 {
     match answer {
         Answer::Shown => shown_frame(decoder),

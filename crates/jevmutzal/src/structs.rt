@@ -1,5 +1,5 @@
 ghost use Rattle.std.specs.Prelude.{◌≡◌};
-ghost use Rattle.jevmutzal.specs.Describing.{chroma_number, empty_frame, fault_frame, format_of as described};
+ghost use Rattle.jevmutzal.specs.Describing.{chroma_number, empty_frame, fault_frame, format_told};
 ghost use Rattle.jevmutzal.specs.Describing.{picture_frame};
 
 use crate::causes::number_of;
@@ -97,7 +97,7 @@ pub struct Format {
 impl Format {
     /// What is told of a sequence.
     pub fn of(sequence: &Sequence) -> Format
-        ensures { result ≡ described sequence.now }
+        ensures { result ≡ format_told sequence.now }
     {
         Format {
             width: sequence.width,

@@ -12,8 +12,8 @@ use Rattle.library_use.specs.declared.encode.NotCoded.{NotCoded}
 use Rattle.library_use.specs.declared.encode.NotCoded.TheVariants as not_coded
 
 -- a stream of these bytes has no fault, and shows these raw pictures
-abbrev pub Shows : List ℕ → List ℕ → Type 0
-Shows stream raw = (o : Outcome) × IsShown stream o × (o.end ≡ None) × (raw ≡ raws o.shown)
+abbrev pub ShowsRawPictures : List ℕ → List ℕ → Type 0
+ShowsRawPictures stream raw = (o : Outcome) × IsShown stream o × (o.end ≡ None) × (raw ≡ raws o.shown)
 
 -- a stream of these bytes has this first fault
 abbrev pub HasFault : List ℕ → Fault → Type 0

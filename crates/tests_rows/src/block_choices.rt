@@ -1,7 +1,7 @@
 ghost use Rattle.std.specs.Prelude.{All, IsTrue, IfOk, ◌≡◌, ◌≤◌};
 ghost use Rattle.dirac_upconvert.specs.HalfSamples.{IsSample};
 ghost use Rattle.dirac_types.specs.Settings.{IsAccepted};
-ghost use Rattle.dirac_decide.specs.Deciding.{IsOfSamples, IsSearched};
+ghost use Rattle.dirac_decide.specs.Deciding.{IsPictureOfSamples, IsSearched};
 ghost use Rattle.dirac_decide.specs.Given.{view_of};
 ghost use Rattle.dirac_vectors.specs.Predictions.{IsShortVector};
 
@@ -91,7 +91,7 @@ fn decided_by_two(
     second: RefView<'_>,
 ) -> Result<BlockData, NoMemory>
     requires settings { IsAccepted settings.now }
-    requires source { IsOfSamples source.now }
+    requires source { IsPictureOfSamples source.now }
     requires first { IsSearched settings.now source.now (view_of first) }
     requires second { IsSearched settings.now source.now (view_of second) }
 {
@@ -109,7 +109,7 @@ fn decided_beside<R: Abort>(
 ) -> Result<BlockData, NoMemory>
     requires settings { IsAccepted settings.now }
     requires blocks { settings.now.blocks ≡ 2 }
-    requires source { IsOfSamples source.now }
+    requires source { IsPictureOfSamples source.now }
     requires across { source.now.y.width ≡ 32 }
     requires down { source.now.y.height ≡ 32 }
     requires first { IsSearched settings.now source.now (view_of first) }

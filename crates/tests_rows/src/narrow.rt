@@ -38,7 +38,7 @@ fn levels_of_32_bits(rt: HostRuntime) -> Result<(), NoMemory> {
     Ok(())
 }
 
-/// A plane of 10 by 2, of which wavelet 3 lifts eight columns together and two apart: the rows 0 to 9 and ten zeros.
+/// A plane of 10 by 2, more columns than a block of eight: the rows 0 to 9 and ten zeros.
 #[test]
 fn levels_of_eight_columns_and_two(rt: HostRuntime) -> Result<(), NoMemory> {
     let mut plane = Narrow::try_new(rt.alloc(), 10, 2, 0)?;

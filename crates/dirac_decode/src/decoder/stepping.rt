@@ -3,9 +3,9 @@ ghost use Rattle.std.specs.Prelude.{◌≡◌, ℕ, ◌+◌, ◌<◌, ◌≤◌,
 ghost use Rattle.std.specs.Io.KnownBytes.{IsAtEnd};
 ghost use Rattle.dirac_io.specs.Faults.{Rose};
 ghost use Rattle.dirac_picture.specs.Reading.{ReadsPlanes};
-ghost use Rattle.dirac_decode.specs.Decoding.{Answers, BreaksOff, StopsIn};
+ghost use Rattle.dirac_decode.specs.Decoding.{AnswersWhatWasMet, BreaksOff, StopsIn};
 ghost use Rattle.dirac_rebuild.specs.Rebuilding.{Rebuilds};
-ghost use Rattle.dirac_decode.specs.Stepping.{DueGives, IsThere, StepGives, StepGivesBefore, TakesOne, sequence_of};
+ghost use Rattle.dirac_decode.specs.Stepping.{DueGives, IsThere, StepGives, StepGivesBefore, TakesOne, opened_sequence};
 
 use crate::advance::{advance_by_unit, next_due};
 use crate::answers::Next;
@@ -51,7 +51,7 @@ impl Decoder {
 
     /// The open sequence.
     pub fn sequence(&self) -> Option<Sequence>
-        ensures { result ≡ sequence_of self.now.state.opened }
+        ensures { result ≡ opened_sequence self.now.state.opened }
     {
         self.state.sequence()
     }
@@ -65,7 +65,7 @@ impl Decoder {
         // Where the unit is there as a whole, the same holds whatever follows what the source holds.
         ensures before_more { IsThere self.old.units (S.held source.old)
             → StepGivesBefore result self.old self.new (S.held source.old) (S.held source.new) }
-        ensures repeated { IfSome result (Answers self.old.stream_end self.old.due) }
+        ensures repeated { IfSome result (AnswersWhatWasMet self.old.stream_end self.old.due) }
         ensures repeats_without_reading { (self.old.stream_end ≡ StreamEnd.Going → ⊥) → source.new ≡ source.old }
         ensures whole { (self.old.stream_end ≡ StreamEnd.Ended → IsAtEnd (S.held source.old)) → self.new.stream_end
             ≡ StreamEnd.Ended → IsAtEnd (S.held source.new) }
@@ -97,7 +97,7 @@ impl Decoder {
         ensures at_most_one_unit { TakesOne result self.old self.new (S.held source.old) (S.held source.new) }
         ensures before_more { IsThere self.old.units (S.held source.old)
             → StepGivesBefore result self.old self.new (S.held source.old) (S.held source.new) }
-        ensures repeated { IfSome result (Answers self.old.stream_end self.old.due) }
+        ensures repeated { IfSome result (AnswersWhatWasMet self.old.stream_end self.old.due) }
         ensures repeats_without_reading { (self.old.stream_end ≡ StreamEnd.Going → ⊥) → source.new ≡ source.old }
         ensures whole { (self.old.stream_end ≡ StreamEnd.Ended → IsAtEnd (S.held source.old)) → self.new.stream_end
             ≡ StreamEnd.Ended → IsAtEnd (S.held source.new) }

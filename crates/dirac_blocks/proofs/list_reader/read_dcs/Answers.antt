@@ -1,9 +1,9 @@
 use Rattle.dirac_bits.specs.Syntax.{◌>>=◌}
 use Rattle.dirac_common.specs.declared.formats.Component.TheVariants as components
 use Rattle.dirac_blocks.specs.declared.parts.ListKind.TheVariants as parts
-use Rattle.dirac_blocks.specs.Grammar.{dcs_listed, listed, units_step}
-use Rattle.dirac_blocks.proofs.InTurn.{then_read, then_refused, then_stops}
-use Rattle.dirac_blocks.proofs.Shapes.{shape_join}
+use Rattle.dirac_blocks.specs.Grammar.{dcs_listed, list_over, units_step}
+use Rattle.dirac_blocks.proofs.InTurn.{not_splits, then_read, then_refused, then_stops}
+use Rattle.dirac_blocks.proofs.Shapes.{size_join}
 use Rattle.dirac_blocks.proofs.list_reader.read_dcs.Goals as goal
 
 pub returns-in-Ok-read_list-clause-value : goal.returns-in-Ok-read_list-clause-value
@@ -15,8 +15,8 @@ returns-in-Ok-read_list-clause-value c =
     let y = units_step (parts.Dc components.Y) in
     let u = units_step (parts.Dc components.U) in
     let v = units_step (parts.Dc components.V) in
-    then_read third.result (listed y c.args.table.now) (λ t. listed u t >>= (λ n. listed v n)) c.args.r.now first.r third.new.r first.table third.new.table c.in-Ok.ensures.value
-    (then_read third.result (listed u first.table) (λ n. listed v n) first.r second.r third.new.r second.table third.new.table c.in-Ok-read_list.ensures.value third.ensures.value)
+    then_read third.result (list_over y c.args.table.now) (λ t. list_over u t >>= (λ n. list_over v n)) c.args.r.now first.r third.new.r first.table third.new.table c.in-Ok.ensures.value
+    (then_read third.result (list_over u first.table) (λ n. list_over v n) first.r second.r third.new.r second.table third.new.table c.in-Ok-read_list.ensures.value third.ensures.value)
 
 pub returns-in-Err-read_list-clause-value : goal.returns-in-Err-read_list-clause-value
 unfolding dcs_listed
@@ -25,8 +25,8 @@ returns-in-Err-read_list-clause-value c =
     let y = units_step (parts.Dc components.Y) in
     let u = units_step (parts.Dc components.U) in
     let v = units_step (parts.Dc components.V) in
-    then_stops (listed y c.args.table.now) (λ t. listed u t >>= (λ n. listed v n)) c.args.r.now first.r first.table c.in-Err-read_list.e c.in-Ok.ensures.value
-    (then_refused (listed u first.table) (λ n. listed v n) first.r c.in-Err-read_list.e c.in-Err-read_list.ensures.value)
+    then_stops (list_over y c.args.table.now) (λ t. list_over u t >>= (λ n. list_over v n)) c.args.r.now first.r first.table c.in-Err-read_list.e c.in-Ok.ensures.value
+    (then_refused (list_over u first.table) (λ n. list_over v n) first.r c.in-Err-read_list.e c.in-Err-read_list.ensures.value)
 
 pub returns-in-Err-clause-value : goal.returns-in-Err-clause-value
 unfolding dcs_listed
@@ -34,13 +34,22 @@ returns-in-Err-clause-value c =
     let y = units_step (parts.Dc components.Y) in
     let u = units_step (parts.Dc components.U) in
     let v = units_step (parts.Dc components.V) in
-    then_refused (listed y c.args.table.now) (λ t. listed u t >>= (λ n. listed v n)) c.args.r.now c.in-Err.e c.in-Err.ensures.value
+    then_refused (list_over y c.args.table.now) (λ t. list_over u t >>= (λ n. list_over v n)) c.args.r.now c.in-Err.e c.in-Err.ensures.value
 
-pub returns-in-Ok-read_list-clause-shape : goal.returns-in-Ok-read_list-clause-shape
-returns-in-Ok-read_list-clause-shape c =
+pub returns-in-Ok-read_list-clause-size : goal.returns-in-Ok-read_list-clause-size
+returns-in-Ok-read_list-clause-size c =
     let t = c.args.table.now in
-    let two = shape_join t c.read_list.new.table c.read_list-in-Ok.new.table c.read_list.ensures.shape c.read_list-in-Ok.ensures.shape in
-    shape_join t c.read_list-in-Ok.new.table c.read_list-in-Ok-read_list.new.table two c.read_list-in-Ok-read_list.ensures.shape
+    let two = size_join t c.read_list.new.table c.read_list-in-Ok.new.table c.read_list.ensures.size c.read_list-in-Ok.ensures.size in
+    size_join t c.read_list-in-Ok.new.table c.read_list-in-Ok-read_list.new.table two c.read_list-in-Ok-read_list.ensures.size
 
-pub returns-in-Err-read_list-clause-shape : goal.returns-in-Err-read_list-clause-shape
-returns-in-Err-read_list-clause-shape c = shape_join c.args.table.now c.read_list.new.table c.read_list-in-Ok.new.table c.read_list.ensures.shape c.read_list-in-Ok.ensures.shape
+pub returns-in-Err-read_list-clause-size : goal.returns-in-Err-read_list-clause-size
+returns-in-Err-read_list-clause-size c = size_join c.args.table.now c.read_list.new.table c.read_list-in-Ok.new.table c.read_list.ensures.size c.read_list-in-Ok.ensures.size
+
+pub read_list-requires : goal.read_list-requires
+read_list-requires c = λ e. not_splits _ e
+
+pub read_list-requires-in-Ok : goal.read_list-requires-in-Ok
+read_list-requires-in-Ok c = λ e. not_splits _ e
+
+pub read_list-requires-in-Ok-read_list : goal.read_list-requires-in-Ok-read_list
+read_list-requires-in-Ok-read_list c = λ e. not_splits _ e

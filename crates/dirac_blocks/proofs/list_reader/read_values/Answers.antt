@@ -2,7 +2,7 @@ use Rattle.dirac_bits.specs.Syntax.{◌>>=◌}
 use Rattle.dirac_block_table.specs.declared.reference.Reference.TheVariants as references
 use Rattle.dirac_blocks.specs.Grammar.{dcs_listed, second_listed, values_listed, vectors_listed}
 use Rattle.dirac_blocks.proofs.InTurn.{then_read, then_refused, then_stops}
-use Rattle.dirac_blocks.proofs.Shapes.{shape_join}
+use Rattle.dirac_blocks.proofs.Shapes.{size_join}
 use Rattle.dirac_blocks.proofs.list_reader.read_values.Goals as goal
 
 pub returns-in-Ok-read_second-clause-value : goal.returns-in-Ok-read_second-clause-value
@@ -26,11 +26,11 @@ unfolding values_listed
 returns-in-Err-clause-value c =
     then_refused (vectors_listed references.First c.args.table.now) (λ t. second_listed t >>= (λ n. dcs_listed n)) c.args.r.now c.in-Err.e c.in-Err.ensures.value
 
-pub returns-in-Ok-read_second-clause-shape : goal.returns-in-Ok-read_second-clause-shape
-returns-in-Ok-read_second-clause-shape c =
+pub returns-in-Ok-read_second-clause-size : goal.returns-in-Ok-read_second-clause-size
+returns-in-Ok-read_second-clause-size c =
     let t = c.args.table.now in
-    let two = shape_join t c.read_vectors.new.table c.read_second.new.table c.read_vectors.ensures.shape c.read_second.ensures.shape in
-    shape_join t c.read_second.new.table c.read_dcs.new.table two c.read_dcs.ensures.shape
+    let two = size_join t c.read_vectors.new.table c.read_second.new.table c.read_vectors.ensures.size c.read_second.ensures.size in
+    size_join t c.read_second.new.table c.read_dcs.new.table two c.read_dcs.ensures.size
 
-pub returns-in-Err-read_second-clause-shape : goal.returns-in-Err-read_second-clause-shape
-returns-in-Err-read_second-clause-shape c = shape_join c.args.table.now c.read_vectors.new.table c.read_second.new.table c.read_vectors.ensures.shape c.read_second.ensures.shape
+pub returns-in-Err-read_second-clause-size : goal.returns-in-Err-read_second-clause-size
+returns-in-Err-read_second-clause-size c = size_join c.args.table.now c.read_vectors.new.table c.read_second.new.table c.read_vectors.ensures.size c.read_second.ensures.size

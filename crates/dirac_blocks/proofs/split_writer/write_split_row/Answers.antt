@@ -15,4 +15,4 @@ superblocks-preserved c =
     let n = c.superblocks.n in
     let sy = c.args.sy in
     narrowed_more c.args.encoder.now c.superblocks.encoder c.write_split.new.encoder (split_row (least_numbers t) sy n) (spelling (22 ∷ 23 ∷ []) 24 (least_numbers t sy n)) (split_row (least_numbers t) sy (n + 1))
-    c.superblocks.invariant c.in_ok-write_split.ensures (split_row_next (least_numbers t) sy n)
+    c.superblocks.invariant c.in-Ok.ensures (split_row_next (least_numbers t) sy n)

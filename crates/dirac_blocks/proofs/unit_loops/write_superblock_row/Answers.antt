@@ -16,4 +16,4 @@ superblocks-preserved c =
     let n = c.superblocks.n in
     let sy = c.args.sy in
     narrowed_more c.args.encoder.now c.superblocks.encoder c.write_superblock.new.encoder (superblock_row p t sy n) (superblock_part p t n sy) (superblock_row p t sy (n + 1))
-    c.superblocks.invariant c.in_ok-write_superblock.ensures (superblock_row_next p t sy n)
+    c.superblocks.invariant c.in-Ok.ensures (superblock_row_next p t sy n)

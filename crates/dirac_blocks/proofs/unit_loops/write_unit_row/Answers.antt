@@ -18,4 +18,4 @@ units-preserved c =
     let i = c.args.i in
     let j = c.args.j in
     narrowed_more c.args.encoder.now c.units.encoder c.write_unit.new.encoder (unit_row p size i j n) (p (i + n * size) j) (unit_row p size i j (n + 1))
-    c.units.invariant c.in_ok-write_unit.ensures (unit_row_next p size i j n)
+    c.units.invariant c.in-Ok.ensures (unit_row_next p size i j n)

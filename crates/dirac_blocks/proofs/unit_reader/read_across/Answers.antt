@@ -1,5 +1,5 @@
 use Rattle.std.proofs.Common.{rules, ◌≡◌, ℤ, true, ap, ◌∙◌, subst, sym, to_z, of_z, w32, Ok, Err}
-use Rattle.dirac_arith.specs.Coded.{read}
+use Rattle.dirac_arith.specs.Coded.{read_coded}
 use Rattle.dirac_vectors.specs.Neighbours.{IsShort}
 use Rattle.dirac_vectors.specs.Predictions.{vector_of}
 use Rattle.dirac_block_table.specs.declared.block.Block.{Block}
@@ -22,10 +22,10 @@ returns-in-Ok-clause-value c =
     let used : uses k b ≡ true = search rules in
     let stored : to_z w32 (of_z w32 v) ≡ v = search rules in
     let given : to_z w32 (of_z w32 c.predicted_vector-prediction.result.x) ≡ p = search rules in
-    let found : read (component_coded p) old ≡ Ok (v, new) = subst (λ (q : ℤ). read (component_coded q) old ≡ Ok (v, new)) given c.in-Ok.ensures.value in
+    let found : read_coded (component_coded p) old ≡ Ok (v, new) = subst (λ (q : ℤ). read_coded (component_coded q) old ≡ Ok (v, new)) given c.in-Ok.ensures.value in
     let put : c.set_across.result ≡ with_across k b v =
     c.set_across.ensures ∙ ap (λ (x : Block). with_across k x (to_z w32 (of_z w32 v))) c.at-block.ensures.value ∙ ap (λ (w : ℤ). with_across k b w) stored in
-    subst (λ (x : Block). read (coded_into (uses k b) b (with_across k) (component_coded p)) old ≡ Ok (x, new)) (sym put)
+    subst (λ (x : Block). read_coded (coded_into (uses k b) b (with_across k) (component_coded p)) old ≡ Ok (x, new)) (sym put)
     (into_found (uses k b) b (with_across k) (component_coded p) old new v used found)
 
 pub returns-in-Err-clause-value : goal.returns-in-Err-clause-value
@@ -38,7 +38,7 @@ returns-in-Err-clause-value c =
     let used : uses k b ≡ true = search rules in
     let given : to_z w32 (of_z w32 c.predicted_vector-prediction.result.x) ≡ p = search rules in
     into_refused (uses k b) b (with_across k) (component_coded p) old c.in-Err.e used
-    (subst (λ (q : ℤ). read (component_coded q) old ≡ Err c.in-Err.e) given c.in-Err.ensures.value)
+    (subst (λ (q : ℤ). read_coded (component_coded q) old ≡ Err c.in-Err.e) given c.in-Err.ensures.value)
 
 pub returns-in-Ok-clause-block : goal.returns-in-Ok-clause-block
 returns-in-Ok-clause-block c =

@@ -1,7 +1,7 @@
 use Rattle.std.proofs.Common.{rules, ◌≡◌, ℤ, Result, true, false, not, ◌||◌, ap, ◌∙◌, subst, sym, to_z, of_z, w32, Ok, Err, [], ◌∷◌}
 use Rattle.dirac_common.specs.declared.faults.Cause.TheVariants as causes
 use Rattle.dirac_common.specs.declared.faults.Cause.{Cause}
-use Rattle.dirac_arith.specs.Coded.{read}
+use Rattle.dirac_arith.specs.Coded.{read_coded}
 use Rattle.dirac_arith.specs.Reading.{Reading}
 use Rattle.dirac_vectors.specs.Neighbours.{IsShort}
 use Rattle.dirac_vectors.specs.Predictions.{dc_of}
@@ -25,12 +25,12 @@ returns-in-Ok-clause-value c =
     let none : (b.ref1 || b.ref2) ≡ false = search rules in
     let stored : to_z w32 (of_z w32 v) ≡ v = search rules in
     let given : to_z w32 (of_z w32 c.predicted_dc-prediction.result) ≡ p = search rules in
-    let found : read (value_coded causes.DcRange (34 ∷ 35 ∷ []) 36 37 p) old ≡ Ok (v, new) =
-    subst (λ (q : ℤ). read (value_coded causes.DcRange (34 ∷ 35 ∷ []) 36 37 q) old ≡ Ok (v, new)) given c.in-Ok.ensures.value in
+    let found : read_coded (value_coded causes.DcRange (34 ∷ 35 ∷ []) 36 37 p) old ≡ Ok (v, new) =
+    subst (λ (q : ℤ). read_coded (value_coded causes.DcRange (34 ∷ 35 ∷ []) 36 37 q) old ≡ Ok (v, new)) given c.in-Ok.ensures.value in
     let put : c.set_dc.result ≡ with_dc k b v =
     c.set_dc.ensures ∙ ap (λ (x : Block). with_dc k x (to_z w32 (of_z w32 v))) c.at-block.ensures.value ∙ ap (λ (w : ℤ). with_dc k b w) stored in
     let one = value_coded causes.DcRange (34 ∷ 35 ∷ []) 36 37 p in
-    subst (λ (x : Block). read (coded_into (is_dc b) b (with_dc k) one) old ≡ Ok (x, new)) (sym put)
+    subst (λ (x : Block). read_coded (coded_into (is_dc b) b (with_dc k) one) old ≡ Ok (x, new)) (sym put)
     (into_found (is_dc b) b (with_dc k) one old new v (is_dc_from b none) found)
 
 pub returns-in-Err-clause-value : goal.returns-in-Err-clause-value
@@ -43,7 +43,7 @@ returns-in-Err-clause-value c =
     let none : (b.ref1 || b.ref2) ≡ false = search rules in
     let given : to_z w32 (of_z w32 c.predicted_dc-prediction.result) ≡ p = search rules in
     into_refused (is_dc b) b (with_dc k) (value_coded causes.DcRange (34 ∷ 35 ∷ []) 36 37 p) old c.in-Err.e (is_dc_from b none)
-    (subst (λ (q : ℤ). read (value_coded causes.DcRange (34 ∷ 35 ∷ []) 36 37 q) old ≡ Err c.in-Err.e) given c.in-Err.ensures.value)
+    (subst (λ (q : ℤ). read_coded (value_coded causes.DcRange (34 ∷ 35 ∷ []) 36 37 q) old ≡ Err c.in-Err.e) given c.in-Err.ensures.value)
 
 pub returns-in-Ok-clause-block : goal.returns-in-Ok-clause-block
 returns-in-Ok-clause-block c =

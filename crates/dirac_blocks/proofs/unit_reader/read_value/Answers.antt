@@ -1,7 +1,7 @@
-use Rattle.std.proofs.Common.{rules, ◌≡◌, true, false, ℤ, ap, subst, sym, to_z, of_z, w32, w64, ◌+ℤ◌, ◌∙◌}
+use Rattle.std.proofs.Common.{arith, rules, refl, ◌≡◌, true, false, ℤ, ap, subst, sym, to_z, of_z, w32, w64, ◌+ℤ◌, ◌∙◌}
 use Rattle.std.proofs.lemmas.Int.{to_z-of_z}
 use Rattle.dirac_vectors.specs.Neighbours.{IsShort}
-use Rattle.dirac_blocks.specs.Grammar.{is_short}
+use Rattle.dirac_blocks.specs.Grammar.{has_16_bits}
 use Rattle.dirac_blocks.proofs.UnitValues.{short_fits, sum_fits, value_found, value_refused}
 use Rattle.dirac_blocks.proofs.unit_reader.read_value.Goals as goal
 
@@ -11,6 +11,29 @@ overflow_add-value c =
     let prediction : to_z w64 (of_z w64 c.from.result) ≡ c.args.prediction = search rules in
     rw (number, prediction) (sum_fits c.in-Ok.number c.args.prediction c.in-Ok.ensures.below_2_39 c.requires.prediction)
 
+pub signed-requires-clause-not_empty : goal.signed-requires-clause-not_empty
+signed-requires-clause-not_empty c = c.requires.not_empty
+
+pub signed-requires-clause-follow : goal.signed-requires-clause-follow
+signed-requires-clause-follow c = c.requires.follow
+
+pub signed-requires-clause-bits : goal.signed-requires-clause-bits
+signed-requires-clause-bits c = c.requires.bits
+
+pub signed-requires-clause-sign : goal.signed-requires-clause-sign
+signed-requires-clause-sign c = c.requires.sign
+
+pub signed-requires-clause-no_overflow : goal.signed-requires-clause-no_overflow
+signed-requires-clause-no_overflow c = c.requires.no_overflow
+
+pub overflow_cast-result : goal.overflow_cast-result
+overflow_cast-result c =
+    let number : to_z w64 (of_z w64 c.in-Ok.number) ≡ c.in-Ok.number = search rules in
+    let prediction : to_z w64 (of_z w64 c.from.result) ≡ c.args.prediction = search rules in
+    let both : to_z w64 (of_z w64 (to_z w64 (of_z w64 c.in-Ok.number) +ℤ to_z w64 (of_z w64 c.from.result))) ≡ c.in-Ok.number +ℤ c.args.prediction =
+    rw (number, prediction) (to_z-of_z w64 _ (sum_fits c.in-Ok.number c.args.prediction c.in-Ok.ensures.below_2_39 c.requires.prediction)) in
+    rw both (short_fits (c.in-Ok.number +ℤ c.args.prediction) (subst IsShort both (c.fits.ensures.short c.if-fits.true)))
+
 pub returns-then-fits-clause-value : goal.returns-then-fits-clause-value
 returns-then-fits-clause-value c =
     let number : to_z w64 (of_z w64 c.in-Ok.number) ≡ c.in-Ok.number = search rules in
@@ -19,7 +42,7 @@ returns-then-fits-clause-value c =
     rw (number, prediction) (to_z-of_z w64 _ (sum_fits c.in-Ok.number c.args.prediction c.in-Ok.ensures.below_2_39 c.requires.prediction)) in
     let few : IsShort (c.in-Ok.number +ℤ c.args.prediction) = subst IsShort both (c.fits.ensures.short c.if-fits.true) in
     let is = ap (λ (z : ℤ). to_z w32 (of_z w32 z)) both ∙ to_z-of_z w32 (c.in-Ok.number +ℤ c.args.prediction) (short_fits _ few) in
-    let short : is_short (c.in-Ok.number +ℤ c.args.prediction) ≡ true = ap is_short (sym both) ∙ sym c.fits.ensures.value ∙ c.if-fits.true in
+    let short : has_16_bits (c.in-Ok.number +ℤ c.args.prediction) ≡ true = ap has_16_bits (sym both) ∙ sym c.fits.ensures.value ∙ c.if-fits.true in
     value_found c.args.cause c.args.follow.now c.args.bits c.args.sign c.args.prediction c.in-Ok.number _ c.args.decoder.now c.signed.new.self c.in-Ok.ensures.read is short
 
 pub returns-then-fits-clause-short : goal.returns-then-fits-clause-short
@@ -38,5 +61,17 @@ returns-else-fits-clause-value c =
     let prediction : to_z w64 (of_z w64 c.from.result) ≡ c.args.prediction = search rules in
     let both : to_z w64 (of_z w64 (to_z w64 (of_z w64 c.in-Ok.number) +ℤ to_z w64 (of_z w64 c.from.result))) ≡ c.in-Ok.number +ℤ c.args.prediction =
     rw (number, prediction) (to_z-of_z w64 _ (sum_fits c.in-Ok.number c.args.prediction c.in-Ok.ensures.below_2_39 c.requires.prediction)) in
-    let long : is_short (c.in-Ok.number +ℤ c.args.prediction) ≡ false = ap is_short (sym both) ∙ sym c.fits.ensures.value ∙ c.if-fits.false in
+    let long : has_16_bits (c.in-Ok.number +ℤ c.args.prediction) ≡ false = ap has_16_bits (sym both) ∙ sym c.fits.ensures.value ∙ c.if-fits.false in
     value_refused c.args.cause c.args.follow.now c.args.bits c.args.sign c.args.prediction c.in-Ok.number c.args.decoder.now c.signed.new.self c.in-Ok.ensures.read long
+
+pub returns-in-Err-clause-value : goal.returns-in-Err-clause-value
+returns-in-Err-clause-value c = rw c.in-Err.ensures.read refl
+
+pub returns-then-fits-clause-few_doublings : goal.returns-then-fits-clause-few_doublings
+returns-then-fits-clause-few_doublings c = omega (arith, c.signed.ensures.few_doublings)
+
+pub returns-else-fits-clause-few_doublings : goal.returns-else-fits-clause-few_doublings
+returns-else-fits-clause-few_doublings c = omega (arith, c.signed.ensures.few_doublings)
+
+pub returns-in-Err-clause-few_doublings : goal.returns-in-Err-clause-few_doublings
+returns-in-Err-clause-few_doublings c = omega (arith, c.signed.ensures.few_doublings)

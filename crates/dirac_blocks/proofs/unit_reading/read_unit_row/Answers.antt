@@ -1,6 +1,5 @@
 use Rattle.std.proofs.Common.{◌+◌, ◌*◌, arith}
-use Rattle.std.proofs.lemmas.Result.{err_from_is_err_and}
-use Rattle.dirac_blocks.specs.Grammar.{unit_step}
+use Rattle.dirac_blocks.specs.Grammar.{unit_read_step}
 use Rattle.dirac_arith.proofs.CodedValues.{repeated_none, repeated_next, repeated_stops}
 use Rattle.dirac_blocks.proofs.Shapes.{shape_refl, shape_join, unit_same, unit_within}
 use Rattle.dirac_blocks.proofs.unit_reading.read_unit_row.Goals as goal
@@ -8,7 +7,7 @@ use Rattle.dirac_blocks.proofs.unit_reading.read_unit_row.Goals as goal
 pub units-init : goal.units-init
 units-init c =
     record {
-      value = repeated_none (λ u. unit_step c.args.part c.args.size (c.args.i + u * c.args.size) c.args.j) c.args.table.now c.args.decoder.now;
+      value = repeated_none (λ u. unit_read_step c.args.part c.args.size (c.args.i + u * c.args.size) c.args.j) c.args.table.now c.args.decoder.now;
       shape = shape_refl c.args.table.now;
       few_doublings = omega arith;
     }
@@ -17,19 +16,17 @@ pub units-preserved : goal.units-preserved
 units-preserved c =
     record {
       value =
-          repeated_next (λ u. unit_step c.args.part c.args.size (c.args.i + u * c.args.size) c.args.j) c.units.n c.args.table.now c.args.decoder.now c.units.table c.units.decoder _ c.units.invariant.value c.in_ok-read_unit.ensures.value;
+          repeated_next (λ u. unit_read_step c.args.part c.args.size (c.args.i + u * c.args.size) c.args.j) c.units.n c.args.table.now c.args.decoder.now c.units.table c.units.decoder _ c.units.invariant.value c.in-Ok.ensures.value;
       shape = shape_join c.args.table.now c.units.table c.read_unit.new.table c.units.invariant.shape c.read_unit.ensures.shape;
       few_doublings = omega (arith, c.read_unit.ensures.few_doublings);
     }
 
-pub returns-in_err-read_unit-clause-value : goal.returns-in_err-read_unit-clause-value
-returns-in_err-read_unit-clause-value c =
-    let p = err_from_is_err_and c.from_residual.result c.from_residual.ensures.1 in
-    rw (p.1, p.2)
-    (repeated_stops (λ u. unit_step c.args.part c.args.size (c.args.i + u * c.args.size) c.args.j) c.units.n c.args.count c.args.table.now c.args.decoder.now c.units.table c.units.decoder _ (omega arith) c.units.invariant.value c.in_err-read_unit.ensures.value)
+pub returns-in-Err-clause-value : goal.returns-in-Err-clause-value
+returns-in-Err-clause-value c =
+    repeated_stops (λ u. unit_read_step c.args.part c.args.size (c.args.i + u * c.args.size) c.args.j) c.units.n c.args.count c.args.table.now c.args.decoder.now c.units.table c.units.decoder c.in-Err.cause (omega arith) c.units.invariant.value c.in-Err.ensures.value
 
-pub returns-in_err-read_unit-clause-shape : goal.returns-in_err-read_unit-clause-shape
-returns-in_err-read_unit-clause-shape c = shape_join c.args.table.now c.units.table c.read_unit.new.table c.units.invariant.shape c.read_unit.ensures.shape
+pub returns-in-Err-clause-shape : goal.returns-in-Err-clause-shape
+returns-in-Err-clause-shape c = shape_join c.args.table.now c.units.table c.read_unit.new.table c.units.invariant.shape c.read_unit.ensures.shape
 
 pub read_unit-requires-clause-unit : goal.read_unit-requires-clause-unit
 read_unit-requires-clause-unit c =

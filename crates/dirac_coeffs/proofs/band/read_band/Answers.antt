@@ -9,3 +9,12 @@ returns-in-Ok-clause-value c =
 pub returns-in-Err-clause-value : goal.returns-in-Err-clause-value
 returns-in-Err-clause-value c =
     band_refused c.args.layout (values_of_parent c.args.parent) c.args.r.now c.in-Err.refusal c.in-Err.ensures.value
+
+pub read_at-requires-clause-layout : goal.read_at-requires-clause-layout
+read_at-requires-clause-layout c = c.requires.layout
+
+pub read_at-requires-clause-parent : goal.read_at-requires-clause-parent
+read_at-requires-clause-parent c = c.requires.parent
+
+pub read_at-requires-clause-index : goal.read_at-requires-clause-index
+read_at-requires-clause-index c = c.in-Ok.ensures.index

@@ -1,4 +1,4 @@
-use Rattle.std.proofs.Common.{◌≡◌, ℤ, Bool, true, List, Result, Ok, Err, OnOk, sym, ap, subst, ◌∙◌}
+use Rattle.std.proofs.Common.{◌≡◌, ℤ, Bool, true, List, Result, Ok, Err, OnOk, sym, subst, ◌∙◌}
 use Rattle.std.proofs.lemmas.Result.{on_ok_weaker}
 use Rattle.dirac_bits.specs.Spelling.{SpelledBehind}
 use Rattle.dirac_bits.specs.Writing.{gap}
@@ -32,37 +32,21 @@ pub returns-then-are_zeros-clause-spelled : goal.returns-then-are_zeros-clause-s
 returns-then-are_zeros-clause-spelled c =
     written_spells c.args.layout (values_of_parent c.args.parent) c.args.band.now c.args.w.now c.uint.new.self c.requires.layout c.requires.band c.requires.indices c.requires.zeros c.requires.zero_indices c.uint.result (returns-then-are_zeros-clause-exact c)
 
-pub returns-in-Some-clause-exact : goal.returns-in-Some-clause-exact
-returns-in-Some-clause-exact c =
+pub returns-clause-exact : goal.returns-clause-exact
+returns-clause-exact c =
     let others = sym c.are_zeros.ensures.value ∙ c.if-are_zeros.false in
-    let same = c.numbers.ensures ∙ sym (ap (λ p. values_of_parent p) c.in-Some.is) in
+    let same = c.numbers_of.ensures in
     on_ok_weaker c.write_coded.result (λ e. band_written c.args.layout (values_of_parent c.args.parent) c.args.band.now c.args.w.now others c.in_ok-align.ensures.ok same e) c.write_coded.ensures.exact
 
-pub returns-in-Some-clause-front : goal.returns-in-Some-clause-front
-returns-in-Some-clause-front c =
+pub returns-clause-front : goal.returns-clause-front
+returns-clause-front c =
     let others = sym c.are_zeros.ensures.value ∙ c.if-are_zeros.false in
-    let same = c.numbers.ensures ∙ sym (ap (λ p. values_of_parent p) c.in-Some.is) in
+    let same = c.numbers_of.ensures in
     err_so c.write_coded.result (λ holds. band_left c.args.layout (values_of_parent c.args.parent) c.args.band.now c.args.w.now others c.in_ok-align.ensures.ok same holds) c.write_coded.ensures.front
 
-pub returns-in-Some-clause-spelled : goal.returns-in-Some-clause-spelled
-returns-in-Some-clause-spelled c =
-    written_spells c.args.layout (values_of_parent c.args.parent) c.args.band.now c.args.w.now c.write_coded.new.w c.requires.layout c.requires.band c.requires.indices c.requires.zeros c.requires.zero_indices c.write_coded.result (returns-in-Some-clause-exact c)
-
-pub returns-in-None-clause-exact : goal.returns-in-None-clause-exact
-returns-in-None-clause-exact c =
-    let others = sym c.are_zeros.ensures.value ∙ c.if-are_zeros.false in
-    let same = sym (ap (λ p. values_of_parent p) c.in-None.is) in
-    on_ok_weaker c.write_coded-in-None.result (λ e. band_written c.args.layout (values_of_parent c.args.parent) c.args.band.now c.args.w.now others c.in_ok-align.ensures.ok same e) c.write_coded-in-None.ensures.exact
-
-pub returns-in-None-clause-front : goal.returns-in-None-clause-front
-returns-in-None-clause-front c =
-    let others = sym c.are_zeros.ensures.value ∙ c.if-are_zeros.false in
-    let same = sym (ap (λ p. values_of_parent p) c.in-None.is) in
-    err_so c.write_coded-in-None.result (λ holds. band_left c.args.layout (values_of_parent c.args.parent) c.args.band.now c.args.w.now others c.in_ok-align.ensures.ok same holds) c.write_coded-in-None.ensures.front
-
-pub returns-in-None-clause-spelled : goal.returns-in-None-clause-spelled
-returns-in-None-clause-spelled c =
-    written_spells c.args.layout (values_of_parent c.args.parent) c.args.band.now c.args.w.now c.write_coded-in-None.new.w c.requires.layout c.requires.band c.requires.indices c.requires.zeros c.requires.zero_indices c.write_coded-in-None.result (returns-in-None-clause-exact c)
+pub returns-clause-spelled : goal.returns-clause-spelled
+returns-clause-spelled c =
+    written_spells c.args.layout (values_of_parent c.args.parent) c.args.band.now c.args.w.now c.write_coded.new.w c.requires.layout c.requires.band c.requires.indices c.requires.zeros c.requires.zero_indices c.write_coded.result (returns-clause-exact c)
 
 pub returns-in_err-align-clause-front : goal.returns-in_err-align-clause-front
 returns-in_err-align-clause-front c =

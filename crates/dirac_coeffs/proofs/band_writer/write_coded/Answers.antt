@@ -2,7 +2,7 @@ use Rattle.std.proofs.Common.{◌≡◌, ◌+◌, ◌<◌, ◌^◌, ℕ, List, l
 use Rattle.std.proofs.lemmas.Result.{on_ok_weaker}
 use Rattle.dirac_bits.specs.Fronts.{HoldsFront}
 use Rattle.dirac_bits.proofs.Fronts.{on_err, err_so}
-use Rattle.dirac_coeffs.specs.Written.{block_of, with_block}
+use Rattle.dirac_coeffs.specs.Written.{block_of, with_band_block}
 use Rattle.dirac_coeffs.specs.Lent.{numbers_in}
 use Rattle.dirac_coeffs.proofs.BlockLengths.{block_short}
 use Rattle.dirac_coeffs.proofs.Fronts.{no_block}
@@ -27,7 +27,7 @@ returns-clause-exact c =
     let parent = numbers_in c.args.parent in
     let block : c.as_slice.result.now ≡ block_of c.args.layout parent b.index b.table.values b.indices =
     c.as_slice.ensures.value ∙ c.in_ok-block.ensures.exact ∙ ap (λ xs. block_of c.args.layout parent b.index xs b.indices) c.numbers-values.ensures in
-    on_ok_weaker c.write_indexed.result (λ e. e ∙ ap (λ (l : List ℕ). with_block b.index l c.args.w.now) block) c.write_indexed.ensures.exact
+    on_ok_weaker c.write_indexed.result (λ e. e ∙ ap (λ (l : List ℕ). with_band_block b.index l c.args.w.now) block) c.write_indexed.ensures.exact
 
 pub returns-clause-front : goal.returns-clause-front
 returns-clause-front c =
@@ -35,4 +35,4 @@ returns-clause-front c =
     let parent = numbers_in c.args.parent in
     let block : c.as_slice.result.now ≡ block_of c.args.layout parent b.index b.table.values b.indices =
     c.as_slice.ensures.value ∙ c.in_ok-block.ensures.exact ∙ ap (λ xs. block_of c.args.layout parent b.index xs b.indices) c.numbers-values.ensures in
-    err_so c.write_indexed.result (λ holds. subst (λ (l : List ℕ). HoldsFront c.args.w.now c.write_indexed.new.w (with_block b.index l c.args.w.now)) block holds) c.write_indexed.ensures.front
+    err_so c.write_indexed.result (λ holds. subst (λ (l : List ℕ). HoldsFront c.args.w.now c.write_indexed.new.w (with_band_block b.index l c.args.w.now)) block holds) c.write_indexed.ensures.front

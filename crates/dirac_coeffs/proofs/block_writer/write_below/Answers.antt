@@ -1,7 +1,7 @@
 use Rattle.std.proofs.Common.{◌≡◌, ℕ, List, Ok, ap, ◌∙◌}
 use Rattle.std.proofs.lemmas.Result.{IfOk-weaker}
 use Rattle.dirac_arith.specs.Interval.{Interval, whole, narrowed_by}
-use Rattle.dirac_coeffs.specs.BandRead.{band_read, content}
+use Rattle.dirac_coeffs.specs.BandRead.{band_read, band_content}
 use Rattle.dirac_coeffs.specs.Decisions.{band_decisions}
 use Rattle.dirac_coeffs.specs.Written.{marks_of, block_of}
 use Rattle.dirac_coeffs.specs.Lent.{numbers_in}
@@ -22,6 +22,6 @@ returns-clause-read_back c =
     let layout = c.args.layout in
     let parent = (numbers_in c.args.parent) in
     let xs = (numbers_in c.args.values) in
-    IfOk-weaker c.finish.result (λ block. block.items ≡ block_of layout parent c.args.index xs c.args.indices.now) (λ block. band_read layout parent c.args.index block.items ≡ Ok (content xs c.args.indices.now))
+    IfOk-weaker c.finish.result (λ block. block.items ≡ block_of layout parent c.args.index xs c.args.indices.now) (λ block. band_read layout parent c.args.index block.items ≡ Ok (band_content xs c.args.indices.now))
     (λ block e. ap (λ (l : List ℕ). band_read layout parent c.args.index l) e ∙ written_read layout parent c.args.index xs c.args.indices.now c.requires.layout c.requires.lawful c.requires.indices)
     (returns-clause-exact c)

@@ -14,3 +14,30 @@ returns-in-Ok c =
     let ds = offset_part layout.mode (marks_of layout c.args.index xs c.args.indices.now c.args.codeblock.row c.args.codeblock.column).offset in
     let es = values_part layout (numbers_in c.args.parent) xs c.args.codeblock.row c.args.codeblock.column in
     on_ok_weaker c.write_block_values.result (λ e. narrowed_more _ _ _ ds es (ds ++ es) c.in-Ok.ensures e refl) c.write_block_values.ensures
+
+pub write_offset-requires-clause-layout : goal.write_offset-requires-clause-layout
+write_offset-requires-clause-layout c = c.requires.layout
+
+pub write_offset-requires-clause-row : goal.write_offset-requires-clause-row
+write_offset-requires-clause-row c = c.requires.row
+
+pub write_offset-requires-clause-column : goal.write_offset-requires-clause-column
+write_offset-requires-clause-column c = c.requires.column
+
+pub write_offset-requires-clause-count : goal.write_offset-requires-clause-count
+write_offset-requires-clause-count c = c.requires.count
+
+pub write_block_values-requires-clause-layout : goal.write_block_values-requires-clause-layout
+write_block_values-requires-clause-layout c = c.requires.layout
+
+pub write_block_values-requires-clause-row : goal.write_block_values-requires-clause-row
+write_block_values-requires-clause-row c = c.requires.row
+
+pub write_block_values-requires-clause-column : goal.write_block_values-requires-clause-column
+write_block_values-requires-clause-column c = c.requires.column
+
+pub write_block_values-requires-clause-len : goal.write_block_values-requires-clause-len
+write_block_values-requires-clause-len c = c.requires.len
+
+pub write_block_values-requires-clause-magnitudes_bounded : goal.write_block_values-requires-clause-magnitudes_bounded
+write_block_values-requires-clause-magnitudes_bounded c = c.requires.magnitudes_bounded

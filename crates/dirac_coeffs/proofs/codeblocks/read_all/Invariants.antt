@@ -1,13 +1,13 @@
 use Rattle.std.proofs.Common.{◌≡◌, ◌+◌, ◌*◌, ◌≤◌, length, Ok}
-use Rattle.dirac_arith.specs.Coded.{read}
-use Rattle.dirac_coeffs.specs.BandRead.{content, block_rows_step}
+use Rattle.dirac_arith.specs.Coded.{read_coded}
+use Rattle.dirac_coeffs.specs.BandRead.{band_content, block_rows_step}
 use Rattle.dirac_coeffs.specs.Lent.{IsNarrow, numbers_in, values_in}
 use Rattle.dirac_coeffs.proofs.codeblocks.read_all.Given as goal
 
 abbrev pub invariant-down : goal.invariant-down
 invariant-down l =
     record {
-      value : read (block_rows_step l.layout (numbers_in l.parent) l.index l.cy (content (values_in l.fn.values) l.fn.indices)) l.fn.decoder ≡ Ok (content (values_in l.values) l.indices, l.decoder);
+      value : read_coded (block_rows_step l.layout (numbers_in l.parent) l.index l.cy (band_content (values_in l.fn.values) l.fn.indices)) l.fn.decoder ≡ Ok (band_content (values_in l.values) l.indices, l.decoder);
       len : length (values_in l.values) ≡ length (values_in l.fn.values);
       narrow : IsNarrow l.values → IsNarrow l.fn.values;
       count : length l.indices ≡ length l.fn.indices;

@@ -11,7 +11,7 @@ returns-then-layout-eq0 c = no_offset_written c.args.encoder.now c.args.layout.m
 pub signed-requires-clause-value : goal.signed-requires-clause-value
 signed-requires-clause-value c =
     let offset : to_z w64 (of_z w64 c.difference_of-offset.result) ≡ c.difference_of-offset.result = to_z-of_z w64 _ (record { sfits = c.difference_of-offset.type_inv }) in
-    rw offset c.difference_of-offset.ensures.small
+    rw offset c.difference_of-offset.ensures.magnitude_can_be_spelt
 
 pub returns : goal.returns
 returns c =

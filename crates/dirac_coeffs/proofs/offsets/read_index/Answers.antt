@@ -18,3 +18,15 @@ returns-else-is_index-clause-value c =
 
 pub returns-in-Err-clause-value : goal.returns-in-Err-clause-value
 returns-in-Err-clause-value c = index_stops c.args.former c.args.decoder.now c.in-Err.cause c.in-Err.ensures.read
+
+pub signed-requires-clause-no_overflow : goal.signed-requires-clause-no_overflow
+signed-requires-clause-no_overflow c = c.requires.no_overflow
+
+pub returns-then-is_index-clause-few_doublings : goal.returns-then-is_index-clause-few_doublings
+returns-then-is_index-clause-few_doublings c = c.signed.ensures.few_doublings
+
+pub returns-else-is_index-clause-few_doublings : goal.returns-else-is_index-clause-few_doublings
+returns-else-is_index-clause-few_doublings c = c.signed.ensures.few_doublings
+
+pub returns-in-Err-clause-few_doublings : goal.returns-in-Err-clause-few_doublings
+returns-in-Err-clause-few_doublings c = c.signed.ensures.few_doublings

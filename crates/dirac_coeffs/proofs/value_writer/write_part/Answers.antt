@@ -1,8 +1,9 @@
+use Rattle.std.proofs.lemmas.Result.{err_from_is_err_and}
 use Rattle.std.proofs.Common.{◌≡◌, ◌+◌, ◌∙◌, ap, arith, of_z, refl, to_z}
 use Rattle.std.specs.Int.{w64}
 use Rattle.std.proofs.lemmas.Int.{to_z-of_z}
 use Rattle.dirac_arith.proofs.Spellings.{narrowed_more}
-use Rattle.dirac_coeffs.specs.Contexts.{corner_of, left_of}
+use Rattle.dirac_coeffs.specs.Contexts.{value_in_corner, value_left_of}
 use Rattle.dirac_coeffs.specs.Decisions.{frame_of, value_part, row_part}
 use Rattle.dirac_coeffs.specs.Lent.{numbers_in}
 use Rattle.dirac_coeffs.proofs.Agreement.{row_next}
@@ -18,8 +19,8 @@ values-init c =
     let corner : to_z w64 (of_z w64 c.corner_value-corner.result) ≡ c.corner_value-corner.result = to_z-of_z w64 _ (record { sfits = c.corner_value-corner.type_inv }) in
     record {
       written = refl;
-      left = left ∙ c.left_value-left.ensures ∙ ap (λ x. left_of w xs x c.args.y) same;
-      corner = corner ∙ c.corner_value-corner.ensures ∙ ap (λ x. corner_of w xs x c.args.y) same;
+      left = left ∙ c.left_value-left.ensures ∙ ap (λ x. value_left_of w xs x c.args.y) same;
+      corner = corner ∙ c.corner_value-corner.ensures ∙ ap (λ x. value_in_corner w xs x c.args.y) same;
     }
 
 pub values-preserved : goal.values-preserved
@@ -34,6 +35,57 @@ values-preserved c =
     let done = c.in_ok-beside.ensures in
     record {
       written = narrowed_more _ _ _ (row_part f xs y from i) (value_part f xs (from + i) y) _ c.values.invariant.written done.written (row_next f xs y from i);
-      left = done.left ∙ ap (λ x. left_of w xs x y) next;
-      corner = done.corner ∙ ap (λ x. corner_of w xs x y) next;
+      left = done.left ∙ ap (λ x. value_left_of w xs x y) next;
+      corner = done.corner ∙ ap (λ x. value_in_corner w xs x y) next;
     }
+
+pub left_value-left-requires-clause-column : goal.left_value-left-requires-clause-column
+left_value-left-requires-clause-column c = omega (arith, c.requires.columns)
+
+pub left_value-left-requires-clause-width : goal.left_value-left-requires-clause-width
+left_value-left-requires-clause-width c = c.requires.width
+
+pub left_value-left-requires-clause-row : goal.left_value-left-requires-clause-row
+left_value-left-requires-clause-row c = c.requires.row
+
+pub left_value-left-requires-clause-inside : goal.left_value-left-requires-clause-inside
+left_value-left-requires-clause-inside c = c.requires.inside
+
+pub corner_value-corner-requires-clause-column : goal.corner_value-corner-requires-clause-column
+corner_value-corner-requires-clause-column c = omega (arith, c.requires.columns)
+
+pub corner_value-corner-requires-clause-width : goal.corner_value-corner-requires-clause-width
+corner_value-corner-requires-clause-width c = c.requires.width
+
+pub corner_value-corner-requires-clause-row : goal.corner_value-corner-requires-clause-row
+corner_value-corner-requires-clause-row c = c.requires.row
+
+pub corner_value-corner-requires-clause-inside : goal.corner_value-corner-requires-clause-inside
+corner_value-corner-requires-clause-inside c = c.requires.inside
+
+pub overflow_add-x : goal.overflow_add-x
+overflow_add-x c = omega (arith, c.requires.columns, c.requires.width)
+
+pub write_at-requires-clause-column : goal.write_at-requires-clause-column
+write_at-requires-clause-column c = omega (arith, c.requires.columns)
+
+pub write_at-requires-clause-width : goal.write_at-requires-clause-width
+write_at-requires-clause-width c = c.requires.width
+
+pub write_at-requires-clause-row : goal.write_at-requires-clause-row
+write_at-requires-clause-row c = c.requires.row
+
+pub write_at-requires-clause-inside : goal.write_at-requires-clause-inside
+write_at-requires-clause-inside c = c.requires.inside
+
+pub write_at-requires-clause-magnitudes_bounded : goal.write_at-requires-clause-magnitudes_bounded
+write_at-requires-clause-magnitudes_bounded c = c.requires.magnitudes_bounded
+
+pub write_at-requires-clause-left : goal.write_at-requires-clause-left
+write_at-requires-clause-left c = c.values.invariant.left
+
+pub write_at-requires-clause-corner : goal.write_at-requires-clause-corner
+write_at-requires-clause-corner c = c.values.invariant.corner
+
+pub returns-in_err-beside : goal.returns-in_err-beside
+returns-in_err-beside c = rw (err_from_is_err_and c.from_residual.result c.from_residual.ensures.1).1 tt

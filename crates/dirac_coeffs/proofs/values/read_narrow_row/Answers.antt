@@ -4,21 +4,21 @@ use Rattle.std.specs.Prelude.{⊤}
 use Rattle.std.proofs.lemmas.Int.{to_z-of_z}
 use Rattle.dirac_common.specs.declared.faults.Cause.{Cause}
 use Rattle.dirac_common.specs.declared.faults.Cause.TheVariants as cause
-use Rattle.dirac_arith.specs.Coded.{Coded, read}
+use Rattle.dirac_arith.specs.Coded.{Coded, read_coded}
 use Rattle.dirac_arith.specs.Decoding.{reading_at}
 use Rattle.dirac_arith.specs.Front.{front}
 use Rattle.dirac_arith.specs.Reading.{Reading}
 use Rattle.dirac_arith.proofs.CodedValues.{repeated_none, repeated_next, repeated_stops}
 use Rattle.dirac_arith.proofs.Decidings.{signed_is_shut}
 use Rattle.dirac_coeffs.specs.BandRead.{value_step, row_step}
-use Rattle.dirac_coeffs.specs.Contexts.{bits_context, corner_of, left_of}
+use Rattle.dirac_coeffs.specs.Contexts.{bits_context, value_in_corner, value_left_of}
 use Rattle.dirac_coeffs.specs.Decisions.{Frame, frame_of, follow_here, sign_here}
 use Rattle.dirac_coeffs.proofs.Carrying.{corner_next, left_next}
 use Rattle.dirac_coeffs.proofs.Steps.{repeated_unread}
 use Rattle.dirac_coeffs.proofs.values.read_narrow_row.Goals as goal
 
 -- a block that begins with sixteen ones has no value
-value_refused : (f : Frame) (x y : ℕ) (xs : List ℤ) (r : Reading) → front r.block 16 ≡ 0xFFFF → read (value_step f x y xs) r ≡ Err cause.CodeWord
+value_refused : (f : Frame) (x y : ℕ) (xs : List ℤ) (r : Reading) → front r.block 16 ≡ 0xFFFF → read_coded (value_step f x y xs) r ≡ Err cause.CodeWord
 unfolding value_step
 value_refused f x y xs r ones = rw (signed_is_shut (follow_here f xs x y) bits_context (sign_here f xs x y) r ones) refl
 
@@ -49,8 +49,8 @@ values-init c =
       runs = here.runs;
       len = refl;
       few_doublings = omega (arith, ap (λ (r : Reading). r.at.doublings) here.stands);
-      left = left ∙ c.left_value-left.ensures ∙ ap (λ x. left_of c.args.layout.width c.args.values.now x c.args.y) same;
-      corner = corner ∙ c.corner_value-corner.ensures ∙ ap (λ x. corner_of c.args.layout.width c.args.values.now x c.args.y) same;
+      left = left ∙ c.left_value-left.ensures ∙ ap (λ x. value_left_of c.args.layout.width c.args.values.now x c.args.y) same;
+      corner = corner ∙ c.corner_value-corner.ensures ∙ ap (λ x. value_in_corner c.args.layout.width c.args.values.now x c.args.y) same;
     }
 
 pub values-preserved : goal.values-preserved
@@ -68,8 +68,8 @@ values-preserved c =
       runs = c.in-Ok.ensures.runs;
       len = c.read_at.ensures.len ∙ c.values.invariant.len;
       few_doublings = omega (arith, c.values.invariant.few_doublings, c.in-Ok.ensures.few_doublings);
-      left = value ∙ subst (λ (xs : List ℤ). c.in-Ok.read.value ≡ left_of w xs (c.args.columns.start + (c.values.i + 1)) y) written (left_next w c.values.values x y (c.args.columns.start + (c.values.i + 1)) c.in-Ok.read.value (omega arith) next);
-      corner = above ∙ subst (λ (xs : List ℤ). c.above_value-above.result ≡ corner_of w xs (c.args.columns.start + (c.values.i + 1)) y) written (corner_next w c.values.values x y (c.args.columns.start + (c.values.i + 1)) c.in-Ok.read.value c.above_value-above.result (omega arith) c.above_value-above.ensures next);
+      left = value ∙ subst (λ (xs : List ℤ). c.in-Ok.read.value ≡ value_left_of w xs (c.args.columns.start + (c.values.i + 1)) y) written (left_next w c.values.values x y (c.args.columns.start + (c.values.i + 1)) c.in-Ok.read.value (omega arith) next);
+      corner = above ∙ subst (λ (xs : List ℤ). c.above_value-above.result ≡ value_in_corner w xs (c.args.columns.start + (c.values.i + 1)) y) written (corner_next w c.values.values x y (c.args.columns.start + (c.values.i + 1)) c.in-Ok.read.value c.above_value-above.result (omega arith) c.above_value-above.ensures next);
     }
 
 pub returns-in-Err-clause-value : goal.returns-in-Err-clause-value
@@ -82,8 +82,89 @@ returns-in-Err-clause-few_doublings c = omega (arith, c.values.invariant.few_dou
 pub returns-clause-value : goal.returns-clause-value
 returns-clause-value c =
     let all : c.values.i ≡ c.args.columns.length = omega (arith, c.values.auto.i-end) in
-    let P : ℕ → Type 0 = λ n. read (row_step (frame_of c.args.layout c.args.parent.now) c.args.y c.args.columns.start n c.args.values.now) c.args.decoder.now ≡ Ok (c.values.values, c.resume.new.self) in
+    let P : ℕ → Type 0 = λ n. read_coded (row_step (frame_of c.args.layout c.args.parent.now) c.args.y c.args.columns.start n c.args.values.now) c.args.decoder.now ≡ Ok (c.values.values, c.resume.new.self) in
     subst P all (rw c.resume.ensures c.values.invariant.value)
 
 pub returns-clause-few_doublings : goal.returns-clause-few_doublings
 returns-clause-few_doublings c = omega (arith, c.values.invariant.few_doublings, ap (λ (r : Reading). r.at.doublings) c.resume.ensures)
+
+pub returns-then-columns-eq0-clause-len : goal.returns-then-columns-eq0-clause-len
+returns-then-columns-eq0-clause-len c = refl
+
+pub returns-then-columns-eq0-clause-few_doublings : goal.returns-then-columns-eq0-clause-few_doublings
+returns-then-columns-eq0-clause-few_doublings c = omega arith
+
+pub returns-then-is_refused-clause-len : goal.returns-then-is_refused-clause-len
+returns-then-is_refused-clause-len c = refl
+
+pub returns-then-is_refused-clause-few_doublings : goal.returns-then-is_refused-clause-few_doublings
+returns-then-is_refused-clause-few_doublings c = omega arith
+
+pub left_value-left-requires-clause-column : goal.left_value-left-requires-clause-column
+left_value-left-requires-clause-column c = omega (arith, c.requires.columns)
+
+pub left_value-left-requires-clause-width : goal.left_value-left-requires-clause-width
+left_value-left-requires-clause-width c = c.requires.width
+
+pub left_value-left-requires-clause-row : goal.left_value-left-requires-clause-row
+left_value-left-requires-clause-row c = c.requires.row
+
+pub left_value-left-requires-clause-inside : goal.left_value-left-requires-clause-inside
+left_value-left-requires-clause-inside c = c.requires.inside
+
+pub corner_value-corner-requires-clause-column : goal.corner_value-corner-requires-clause-column
+corner_value-corner-requires-clause-column c = omega (arith, c.requires.columns)
+
+pub corner_value-corner-requires-clause-width : goal.corner_value-corner-requires-clause-width
+corner_value-corner-requires-clause-width c = c.requires.width
+
+pub corner_value-corner-requires-clause-row : goal.corner_value-corner-requires-clause-row
+corner_value-corner-requires-clause-row c = c.requires.row
+
+pub corner_value-corner-requires-clause-inside : goal.corner_value-corner-requires-clause-inside
+corner_value-corner-requires-clause-inside c = c.requires.inside
+
+pub registers-registers-requires : goal.registers-registers-requires
+registers-registers-requires c = record { not_refused = c.is_refused.ensures.not_refused c.if-is_refused.false }
+
+pub overflow_add-at : goal.overflow_add-at
+overflow_add-at c = omega (arith, c.requires.columns, c.requires.width)
+
+pub above_value-above-requires-clause-column : goal.above_value-above-requires-clause-column
+above_value-above-requires-clause-column c = omega (arith, c.requires.columns)
+
+pub above_value-above-requires-clause-width : goal.above_value-above-requires-clause-width
+above_value-above-requires-clause-width c = c.requires.width
+
+pub above_value-above-requires-clause-row : goal.above_value-above-requires-clause-row
+above_value-above-requires-clause-row c = c.requires.row
+
+pub above_value-above-requires-clause-inside : goal.above_value-above-requires-clause-inside
+above_value-above-requires-clause-inside c = omega (arith, c.requires.inside, c.values.invariant.len)
+
+pub read_at-requires-clause-runs : goal.read_at-requires-clause-runs
+read_at-requires-clause-runs c = c.values.invariant.runs
+
+pub read_at-requires-clause-column : goal.read_at-requires-clause-column
+read_at-requires-clause-column c = omega (arith, c.requires.columns)
+
+pub read_at-requires-clause-width : goal.read_at-requires-clause-width
+read_at-requires-clause-width c = c.requires.width
+
+pub read_at-requires-clause-row : goal.read_at-requires-clause-row
+read_at-requires-clause-row c = c.requires.row
+
+pub read_at-requires-clause-inside : goal.read_at-requires-clause-inside
+read_at-requires-clause-inside c = omega (arith, c.requires.inside, c.values.invariant.len)
+
+pub read_at-requires-clause-no_overflow : goal.read_at-requires-clause-no_overflow
+read_at-requires-clause-no_overflow c = omega (arith, c.values.invariant.few_doublings, c.requires.no_overflow, c.requires.columns, c.requires.width)
+
+pub returns-in-Err-clause-len : goal.returns-in-Err-clause-len
+returns-in-Err-clause-len c = c.read_at.ensures.len ∙ c.values.invariant.len
+
+pub resume-requires : goal.resume-requires
+resume-requires c = record { runs = c.values.invariant.runs }
+
+pub returns-clause-len : goal.returns-clause-len
+returns-clause-len c = c.values.invariant.len

@@ -28,3 +28,27 @@ returns-in_err-read_wide_value-clause-value c =
     let p = err_from_is_err_and c.from_residual.result c.from_residual.ensures.1 in
     rw (p.1, p.2)
     (repeated_stops (λ i. value_step (frame_of c.args.layout (numbers_in c.args.parent)) (c.args.columns.start + i) c.args.y) c.values.i c.args.columns.length c.args.values.now c.args.decoder.now c.values.values c.values.decoder _ (omega arith) c.values.invariant.value c.in_err-read_wide_value.ensures.value)
+
+pub read_wide_value-requires-clause-column : goal.read_wide_value-requires-clause-column
+read_wide_value-requires-clause-column c = omega (arith, c.requires.columns)
+
+pub read_wide_value-requires-clause-width : goal.read_wide_value-requires-clause-width
+read_wide_value-requires-clause-width c = c.requires.width
+
+pub read_wide_value-requires-clause-row : goal.read_wide_value-requires-clause-row
+read_wide_value-requires-clause-row c = c.requires.row
+
+pub read_wide_value-requires-clause-inside : goal.read_wide_value-requires-clause-inside
+read_wide_value-requires-clause-inside c = omega (arith, c.requires.inside, c.values.invariant.len)
+
+pub read_wide_value-requires-clause-no_overflow : goal.read_wide_value-requires-clause-no_overflow
+read_wide_value-requires-clause-no_overflow c = omega (arith, c.values.invariant.few_doublings, c.requires.no_overflow, c.requires.columns, c.requires.width)
+
+pub returns-in_err-read_wide_value-clause-len : goal.returns-in_err-read_wide_value-clause-len
+returns-in_err-read_wide_value-clause-len c = c.read_wide_value.ensures.len ∙ c.values.invariant.len
+
+pub returns-in_err-read_wide_value-clause-few_doublings : goal.returns-in_err-read_wide_value-clause-few_doublings
+returns-in_err-read_wide_value-clause-few_doublings c = omega (arith, c.values.invariant.few_doublings, c.read_wide_value.ensures.few_doublings)
+
+pub returns-clause-len : goal.returns-clause-len
+returns-clause-len c = c.values.invariant.len

@@ -1,12 +1,12 @@
 use Rattle.std.proofs.Common.{◌≡◌, ◌*◌, ◌-◌, arith, ap, sym, ◌∙◌}
 use Rattle.dirac_costs.specs.Least.{first_least_to}
-use Rattle.dirac_decide.specs.Given.{given, view_of}
+use Rattle.dirac_decide.specs.Given.{deciding_of, view_of}
 use Rattle.dirac_decide.specs.Units.{candidate, candidate_cost, vector_cost}
 use Rattle.dirac_decide.proofs.best.best_of_all.Goals as goal
 
 pub returns-clause-vector : goal.returns-clause-vector
 returns-clause-vector c =
-    let d = given c.args.inputs.now in
+    let d = deciding_of c.args.inputs.now in
     let r = view_of c.args.view.now in
     let u = c.args.unit in
     let last : c.loop-k.k ≡ u.size * u.size - 1 = omega arith in
@@ -14,7 +14,7 @@ returns-clause-vector c =
 
 pub returns-clause-costed : goal.returns-clause-costed
 returns-clause-costed c =
-    let d = given c.args.inputs.now in
+    let d = deciding_of c.args.inputs.now in
     let r = view_of c.args.view.now in
     let u = c.args.unit in
     record {

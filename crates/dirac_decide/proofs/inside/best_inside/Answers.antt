@@ -1,5 +1,5 @@
 use Rattle.std.proofs.Common.{◌≡◌, ◌*◌, [], Option, ap, arith, refl, subst, sym, ◌∙◌}
-use Rattle.dirac_decide.specs.Given.{given, view_of}
+use Rattle.dirac_decide.specs.Given.{deciding_of, view_of}
 use Rattle.dirac_decide.specs.Insides.{IsBestAmong, IsBestWhereSome}
 use Rattle.dirac_decide.specs.Units.{first_or_none, inside_to, vector_cost}
 use Rattle.dirac_decide.specs.declared.best.Best.{Best}
@@ -10,7 +10,7 @@ loop-k-init c = refl
 
 pub returns-in-Some-clause-vector : goal.returns-in-Some-clause-vector
 returns-in-Some-clause-vector c =
-    let d = given c.args.inputs.now in
+    let d = deciding_of c.args.inputs.now in
     let r = view_of c.args.view.now in
     let u = c.args.unit in
     let last : c.loop-k.k ≡ u.size * u.size = omega arith in
@@ -19,7 +19,7 @@ returns-in-Some-clause-vector c =
 
 pub returns-in-Some-clause-costed : goal.returns-in-Some-clause-costed
 returns-in-Some-clause-costed c =
-    let d = given c.args.inputs.now in
+    let d = deciding_of c.args.inputs.now in
     let r = view_of c.args.view.now in
     let u = c.args.unit in
     let is : IsBestAmong d r u (inside_to d r u c.loop-k.k) c.in-Some.best = subst (λ (o : Option Best). IsBestWhereSome d r u (inside_to d r u c.loop-k.k) o) c.in-Some.is c.loop-k.invariant in
@@ -27,7 +27,7 @@ returns-in-Some-clause-costed c =
 
 pub returns-in-None-clause-vector : goal.returns-in-None-clause-vector
 returns-in-None-clause-vector c =
-    let d = given c.args.inputs.now in
+    let d = deciding_of c.args.inputs.now in
     let r = view_of c.args.view.now in
     let u = c.args.unit in
     let last : c.loop-k.k ≡ u.size * u.size = omega arith in

@@ -1,12 +1,12 @@
 use Rattle.std.proofs.Common.{ap, arith}
-use Rattle.dirac_decide.specs.Given.{given, view_of}
+use Rattle.dirac_decide.specs.Given.{deciding_of, view_of}
 use Rattle.dirac_decide.specs.Units.{vector_cost}
 use Rattle.dirac_decide.proofs.Insides.{best_stays, best_taken}
 use Rattle.dirac_decide.proofs.inside.better.Goals as goal
 
 pub returns-then-is_same : goal.returns-then-is_same
 returns-then-is_same c = λ vs is.
-    let d = given c.args.inputs.now in
+    let d = deciding_of c.args.inputs.now in
     let r = view_of c.args.view.now in
     let u = c.args.unit in
     let same = ap (vector_cost d r u) (c.is_same.ensures c.if-is_same.true) in
@@ -14,7 +14,7 @@ returns-then-is_same c = λ vs is.
 
 pub returns-then-cost-best : goal.returns-then-cost-best
 returns-then-cost-best c = λ vs is.
-    let d = given c.args.inputs.now in
+    let d = deciding_of c.args.inputs.now in
     let r = view_of c.args.view.now in
     let u = c.args.unit in
     best_taken d r u vs c.args.best _ is
@@ -23,7 +23,7 @@ returns-then-cost-best c = λ vs is.
 
 pub returns-else-cost-best : goal.returns-else-cost-best
 returns-else-cost-best c = λ vs is.
-    let d = given c.args.inputs.now in
+    let d = deciding_of c.args.inputs.now in
     let r = view_of c.args.view.now in
     let u = c.args.unit in
     best_stays d r u vs c.args.vector c.args.best is (c.vector_cost_below-cost.ensures.told.above (omega arith))

@@ -1,6 +1,6 @@
 use Rattle.std.proofs.Common.{◌≡◌, true, false, List, [], ◌∷◌, ◌++◌, Option, subst, sym, ◌∙◌}
 use Rattle.dirac_common.specs.declared.formats.Vector.{Vector}
-use Rattle.dirac_decide.specs.Given.{given, view_of}
+use Rattle.dirac_decide.specs.Given.{deciding_of, view_of}
 use Rattle.dirac_decide.specs.Insides.{IsBestAmong, IsBestWhereSome}
 use Rattle.dirac_decide.specs.Units.{candidate, inside_to}
 use Rattle.dirac_decide.specs.declared.best.Best.{Best}
@@ -9,7 +9,7 @@ use Rattle.dirac_decide.proofs.inside.next_inside.Goals as goal
 
 pub returns-then-not-has : goal.returns-then-not-has
 returns-then-not-has c =
-    let d = given c.args.inputs.now in
+    let d = deciding_of c.args.inputs.now in
     let r = view_of c.args.view.now in
     let u = c.args.unit in
     let k = c.args.k in
@@ -19,7 +19,7 @@ returns-then-not-has c =
 
 pub returns-in-Some : goal.returns-in-Some
 returns-in-Some c =
-    let d = given c.args.inputs.now in
+    let d = deciding_of c.args.inputs.now in
     let r = view_of c.args.view.now in
     let u = c.args.unit in
     let k = c.args.k in
@@ -30,7 +30,7 @@ returns-in-Some c =
 
 pub returns-in-None : goal.returns-in-None
 returns-in-None c =
-    let d = given c.args.inputs.now in
+    let d = deciding_of c.args.inputs.now in
     let r = view_of c.args.view.now in
     let u = c.args.unit in
     let k = c.args.k in

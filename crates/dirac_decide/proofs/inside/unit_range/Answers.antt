@@ -1,7 +1,7 @@
 use Rattle.std.proofs.Common.{◌≡◌, Bool, ◌&&◌, ◌+◌, ◌*◌, ◌/◌, ◌%◌, ap, ap₂, arith, sym, ◌∙◌}
 use Rattle.dirac_inside.specs.Inside.{all_below, keeps_inside}
 use Rattle.dirac_inside.specs.declared.picture_blocks.PictureBlocks.{PictureBlocks}
-use Rattle.dirac_decide.specs.Given.{given}
+use Rattle.dirac_decide.specs.Given.{deciding_of}
 use Rattle.dirac_decide.specs.Units.{block_keeps, unit_keeps}
 use Rattle.dirac_decide.proofs.Insides.{all_more}
 use Rattle.dirac_decide.proofs.inside.unit_range.Goals as goal
@@ -11,7 +11,7 @@ loop-k-init c = record { inside = λ v b. c.all-range.ensures.all v b; range = c
 
 pub loop-k-preserved : goal.loop-k-preserved
 loop-k-preserved c =
-    let d = given c.args.inputs.now in
+    let d = deciding_of c.args.inputs.now in
     let u = c.args.unit in
     let k = c.loop-k.k in
     record {
@@ -26,7 +26,7 @@ loop-k-preserved c =
 pub returns-clause-inside : goal.returns-clause-inside
 unfolding unit_keeps
 returns-clause-inside c = λ v b.
-    let d = given c.args.inputs.now in
+    let d = deciding_of c.args.inputs.now in
     let u = c.args.unit in
     let last : c.loop-k.k ≡ u.size * u.size = omega arith in
     c.loop-k.invariant.inside v b ∙ ap (all_below (block_keeps d u v)) last

@@ -1,5 +1,5 @@
 use Rattle.std.proofs.Common.{ap, refl, ◌∙◌}
-use Rattle.dirac_decide.specs.Given.{given, view_of}
+use Rattle.dirac_decide.specs.Given.{deciding_of, view_of}
 use Rattle.dirac_decide.specs.Choosing.{cheaper}
 use Rattle.dirac_decide.specs.Modes.{both_mode}
 use Rattle.dirac_decide.proofs.Choices.{second_is}
@@ -11,7 +11,7 @@ with_both-requires-clause-block c = c.unless_cheaper-choice.ensures.block 2 c.re
 
 pub returns-clause-value : goal.returns-clause-value
 returns-clause-value c =
-    let d = given c.args.inputs.now in
+    let d = deciding_of c.args.inputs.now in
     let r = view_of c.args.view.now in
     let u = c.args.unit in
     c.with_both.ensures.value

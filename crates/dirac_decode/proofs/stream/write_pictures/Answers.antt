@@ -3,15 +3,15 @@ use Rattle.std.specs.Prelude.{IfSome}
 use Rattle.dirac_units.specs.declared.unit.StreamEnd.TheVariants as stream_end
 use Rattle.dirac_decode.specs.declared.answers.Decoded.TheVariants as decoded
 use Rattle.dirac_content.specs.declared.tally.Tally.{Tally}
-use Rattle.dirac_decode.specs.Decoded.{IsDecoded}
-use Rattle.dirac_decode.specs.Decoding.{Decoding, begun}
+use Rattle.dirac_decode.specs.Decoded.{IsDecodedStream}
+use Rattle.dirac_decode.specs.Decoding.{Decoding, decoder_begun}
 use Rattle.dirac_decode.proofs.Streaming.{broken_off, cut_off, cut_off_in, not_stopped_by_end, not_stopped_by_fault, read_in, read_out, read_some, stops_at_break, streamed_done, streamed_fault, streamed_more, streamed_none}
 use Rattle.dirac_content.proofs.Passing.{each_has_a_cut}
 use Rattle.dirac_decode.proofs.stream.write_pictures.Goals as goal
 
 pub pictures-init : goal.pictures-init
 pictures-init g c =
-    let same : c.args.decoder.now ≡ begun = c.requires.new in
+    let same : c.args.decoder.now ≡ decoder_begun = c.requires.new in
     record {
       streamed = streamed_none c.args.decoder.now (g.S.Source.held c.args.source.now) (g.K.Sink.taken c.args.out.now) same;
       moving = λ e. let going : c.args.decoder.now.stream_end ≡ stream_end.Going = ap (λ (d : Decoding). d.stream_end) same in cc;
@@ -57,7 +57,7 @@ returns-in-NoMemory-put_picture-clause-decoded g c =
 
 pub returns-in-End-clause-decoded : goal.returns-in-End-clause-decoded
 returns-in-End-clause-decoded g c =
-    subst (λ (t : Tally). IfSome (g.S.Source.held c.args.source.now) (λ bytes. IsDecoded bytes (decoded.Done t) (g.K.Sink.taken c.args.out.now) (g.K.Sink.taken c.pictures.out))) (sym c.tally.ensures.value)
+    subst (λ (t : Tally). IfSome (g.S.Source.held c.args.source.now) (λ bytes. IsDecodedStream bytes (decoded.Done t) (g.K.Sink.taken c.args.out.now) (g.K.Sink.taken c.pictures.out))) (sym c.tally.ensures.value)
     (streamed_done c.pictures.decoder c.next_picture_by.new.self
     (g.S.Source.held c.args.source.now) (g.S.Source.held c.pictures.source) (g.S.Source.held c.next_picture_by.new.source)
     (g.K.Sink.taken c.args.out.now) (g.K.Sink.taken c.pictures.out)
@@ -68,7 +68,7 @@ returns-in-End-clause-whole g c = c.in-End.ensures.whole c.pictures.invariant.wh
 
 pub returns-in-Fault-clause-decoded : goal.returns-in-Fault-clause-decoded
 returns-in-Fault-clause-decoded g c =
-    subst (λ (t : Tally). IfSome (g.S.Source.held c.args.source.now) (λ bytes. IsDecoded bytes (decoded.Fault c.in-Fault.fault t) (g.K.Sink.taken c.args.out.now) (g.K.Sink.taken c.pictures.out))) (sym c.tally-in-Fault.ensures.value)
+    subst (λ (t : Tally). IfSome (g.S.Source.held c.args.source.now) (λ bytes. IsDecodedStream bytes (decoded.Fault c.in-Fault.fault t) (g.K.Sink.taken c.args.out.now) (g.K.Sink.taken c.pictures.out))) (sym c.tally-in-Fault.ensures.value)
     (streamed_fault c.pictures.decoder c.next_picture_by.new.self c.in-Fault.fault
     (g.S.Source.held c.args.source.now) (g.S.Source.held c.pictures.source) (g.S.Source.held c.next_picture_by.new.source)
     (g.K.Sink.taken c.args.out.now) (g.K.Sink.taken c.pictures.out)

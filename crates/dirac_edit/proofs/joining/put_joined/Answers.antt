@@ -4,7 +4,7 @@ use Rattle.std.proofs.lemmas.Result.{on_ok_weaker}
 use Rattle.std.specs.Io.KnownBytes.{Appends}
 use Rattle.dirac_io.specs.Writing.{AppendsFront}
 use Rattle.dirac_encode_laws.specs.Stream.{end_unit}
-use Rattle.dirac_edit_laws.specs.Joined.{bare, bytes_or_bare, joined}
+use Rattle.dirac_edit_laws.specs.Joined.{bare, bytes_or_bare, joined_sequences}
 use Rattle.dirac_edit.proofs.Stepping.{here_bare, here_ended, here_first, here_next, here_passed, here_stopped}
 use Rattle.dirac_edit.proofs.Texts.{has_pictures}
 use Rattle.dirac_edit.proofs.Written.{all_written, last_part_written}
@@ -51,8 +51,8 @@ returns-then-is_bare g c =
     let out' = g.K.Sink.taken c.put_bare.new.out in
     let so = here_bare sequences c.loop-sequence.progress c.loop-sequence.sequence-index out0 out c.loop-sequence-test.false (sym c.is_bare.ensures ∙ c.if-is_bare.true) c.loop-sequence.invariant.here in
     record {
-      all = on_ok_weaker c.put_bare.result (all_written (bytes_or_bare sequences (joined sequences)) (bare sequences) out0 out out' so) c.put_bare.ensures.all;
-      front = last_part_written (bytes_or_bare sequences (joined sequences)) (bare sequences) out0 out out' so c.put_bare.ensures.front;
+      all = on_ok_weaker c.put_bare.result (all_written (bytes_or_bare sequences (joined_sequences sequences)) (bare sequences) out0 out out' so) c.put_bare.ensures.all;
+      front = last_part_written (bytes_or_bare sequences (joined_sequences sequences)) (bare sequences) out0 out out' so c.put_bare.ensures.front;
       failed = λ failed. omega (arith, c.loop-sequence.invariant.count, c.put_bare.ensures.failed failed);
       count = omega (arith, c.loop-sequence.invariant.count);
     }
@@ -67,8 +67,8 @@ returns g c =
     let piece : List ℕ = end_unit c.loop-sequence.progress.previous in
     record {
       all = on_ok_weaker c.done.result
-          (λ all. all_written (bytes_or_bare sequences (joined sequences)) piece out0 out out' so (subst (λ (n : ℕ). Appends out out' (end_unit n)) c.previous.ensures (c.put_end.ensures.all all))) c.done.ensures.all;
-      front = last_part_written (bytes_or_bare sequences (joined sequences)) piece out0 out out' so (subst (λ (n : ℕ). AppendsFront out out' (end_unit n)) c.previous.ensures c.put_end.ensures.front);
+          (λ all. all_written (bytes_or_bare sequences (joined_sequences sequences)) piece out0 out out' so (subst (λ (n : ℕ). Appends out out' (end_unit n)) c.previous.ensures (c.put_end.ensures.all all))) c.done.ensures.all;
+      front = last_part_written (bytes_or_bare sequences (joined_sequences sequences)) piece out0 out out' so (subst (λ (n : ℕ). AppendsFront out out' (end_unit n)) c.previous.ensures c.put_end.ensures.front);
       failed = λ failed. omega (arith, c.loop-sequence.invariant.count, c.put_end.ensures.failed (c.done.ensures.failed failed));
       count = omega (arith, c.loop-sequence.invariant.count);
     }

@@ -5,15 +5,15 @@ use Rattle.dirac_plan.specs.Planning.{Planning, is_closed, with_picture}
 use Rattle.std.specs.Prelude.{IfSome}
 use Rattle.dirac_encode_laws.specs.declared.answers.Encoded.{Encoded}
 use Rattle.dirac_encode_laws.specs.declared.answers.Encoded.TheVariants as encoded
-use Rattle.dirac_encode_laws.specs.Encoding.{AnswersEncode, behind, encoding_under}
+use Rattle.dirac_encode_laws.specs.Encoding.{AnswersEncodedStream, answer_behind, encoding_under}
 use Rattle.dirac_encode_laws.specs.Fit.{rule_of}
 use Rattle.dirac_encode_laws.proofs.Fitting.{rule_gives}
 use Rattle.dirac_encode_laws.specs.Steps.{Progress}
 use Rattle.dirac_encode_laws.proofs.Accepted.{most_pictures, raw_some}
-use Rattle.dirac_encode.specs.Going.{so_far}
-use Rattle.dirac_encode.proofs.Finding.{lists_first, lists_pushed}
-use Rattle.dirac_encode.proofs.Reading.{behind_some, end_early, end_stops, ends_recovered, fault_stops_coding, many_ended, many_ends, next_leads, next_stops, open_at_first, part_ended, part_ends, so_far_first, stop_no_part, stopped_before_the_end, stops_here}
-use Rattle.dirac_encode.proofs.OfRead.{alone_first, alone_leads, due_by, front_by}
+use Rattle.dirac_encode_progress.specs.Going.{so_far}
+use Rattle.dirac_encode_progress.proofs.Finding.{lists_first, lists_pushed}
+use Rattle.dirac_encode_progress.proofs.Reading.{behind_some, end_early, end_stops, ends_recovered, fault_stops_coding, many_ended, many_ends, next_leads, next_stops, open_at_first, part_ended, part_ends, so_far_first, stop_no_part, stopped_before_the_end, stops_here}
+use Rattle.dirac_encode_progress.proofs.OfRead.{alone_first, alone_leads, due_by, front_by}
 use Rattle.dirac_encode.proofs.pictures.put_pictures.Goals as goal
 
 pub pictures-init : goal.pictures-init
@@ -100,7 +100,7 @@ returns-in-Ended-clause-encoded g c =
     (g.K.Sink.taken c.args.out.now) (g.K.Sink.taken c.pictures.out) (g.K.Sink.taken c.put_planned.new.out) (g.K.Sink.taken c.put_last.new.out)
     (g.N.Sink.taken c.args.side.now) (g.N.Sink.taken c.pictures.side) (g.N.Sink.taken c.put_planned.new.side) (g.N.Sink.taken c.put_last.new.side)
     c.requires.accepted ends c.in_default.ensures.led (c.in_default.ensures.all_given refl) c.in_default.ensures.accepted c.in_default-put_last.ensures.ended in
-    subst (λ (a : Encoded). IfSome first (λ bytes. AnswersEncode a (encoding_under f t bytes) (g.K.Sink.taken c.args.out.now) (g.K.Sink.taken c.put_last.new.out) (g.N.Sink.taken c.args.side.now) (g.N.Sink.taken c.put_last.new.side))) (sym c.behind_whole.ensures) is
+    subst (λ (a : Encoded). IfSome first (λ bytes. AnswersEncodedStream a (encoding_under f t bytes) (g.K.Sink.taken c.args.out.now) (g.K.Sink.taken c.put_last.new.out) (g.N.Sink.taken c.args.side.now) (g.N.Sink.taken c.put_last.new.side))) (sym c.behind_whole.ensures) is
 
 pub returns-in-Ended-clause-recovered : goal.returns-in-Ended-clause-recovered
 returns-in-Ended-clause-recovered g c =
@@ -291,7 +291,7 @@ returns-in-Ended-clause-front_of_read g c =
     let f = rule_of c.args.coder.now.budget in
     let t = c.args.coder.now.settings.now in
     let part : List ℕ = take c.in-Ended.n c.fill.new.buf in
-    front_by f t (g.S.Source.held c.args.source.now) c.pictures.planner (so_far c.pictures.coding) (behind c.in-Ended.n) (g.S.Source.held c.pictures.source) (g.S.Source.held c.fill.new.source)
+    front_by f t (g.S.Source.held c.args.source.now) c.pictures.planner (so_far c.pictures.coding) (answer_behind c.in-Ended.n) (g.S.Source.held c.pictures.source) (g.S.Source.held c.fill.new.source)
     (g.K.Sink.taken c.args.out.now) (g.K.Sink.taken c.pictures.out) (g.K.Sink.taken c.put_last.new.out) (g.N.Sink.taken c.args.side.now) (g.N.Sink.taken c.pictures.side) (g.N.Sink.taken c.put_last.new.side)
     part c.pictures.invariant.alone (c.in-Ended.ensures.part c.in-Ended.n refl)
     (λ bytes runs.

@@ -1,8 +1,8 @@
 use Rattle.std.proofs.Common.{◌∙◌, sym, arith}
 use Rattle.dirac_encode_laws.specs.Fit.{rule_of}
-use Rattle.dirac_encode.specs.Going.{so_far}
-use Rattle.dirac_encode.proofs.Finding.{lists_found, lists_more, lists_told}
-use Rattle.dirac_encode.proofs.Going.{goes_more, goes_told, stops_more}
+use Rattle.dirac_encode_progress.specs.Going.{so_far}
+use Rattle.dirac_encode_progress.proofs.Finding.{lists_found, lists_more, lists_told}
+use Rattle.dirac_encode_progress.proofs.Going.{goes_more, goes_told, stops_more}
 use Rattle.dirac_encode.proofs.planned.put_planned.Goals as goal
 
 pub returns-in-Err-clause-stopped : goal.returns-in-Err-clause-stopped

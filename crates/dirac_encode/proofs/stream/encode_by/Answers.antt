@@ -1,5 +1,5 @@
 use Rattle.dirac_encode_laws.specs.Fit.{rule_of}
-use Rattle.dirac_encode.proofs.OfRead.{front_of_nothing}
+use Rattle.dirac_encode_progress.proofs.OfRead.{front_of_nothing}
 use Rattle.dirac_encode.proofs.stream.encode_by.Goals as goal
 
 pub returns-in_default-clause-front_of_read : goal.returns-in_default-clause-front_of_read

@@ -8,7 +8,7 @@ use Rattle.dirac_content.specs.Content.{rebuilt}
 use Rattle.dirac_sequence_header.specs.declared.sequence.Sequence.{Sequence}
 use Rattle.dirac_picture.specs.Written.{payload_by, with_coded}
 use Rattle.dirac_picture.specs.declared.coded.CodedPicture.{CodedPicture}
-use Rattle.dirac_encode_laws.specs.Payloads.{payload_of, with_picture}
+use Rattle.dirac_encode_laws.specs.Payloads.{payload_of, with_coded_picture}
 use Rattle.dirac_encode_laws.specs.Coded.{motion_among}
 use Rattle.dirac_encode_laws.proofs.Reading.{predicting}
 use Rattle.dirac_encode_picture.specs.Asked.{coded_by}
@@ -47,10 +47,10 @@ returns g c =
     let shown : c.in_ok-finished.finished.shown ≡ rebuilt (sequence_of t) refs (coded_by t refs q p o) =
     c.in_ok-finished.ensures.shown ∙ shown_from c.sequence_of-sequence.result (sequence_of t) refs coded _ c.sequence_of-sequence.ensures.value c.in_ok-coded.ensures in
     let exact : c.in_ok-payload.payload.items ≡ payload_of t (coded_by t refs q p o) =
-    packed (up_to_byte (with_picture t coded [])) c.in_ok-payload.payload.items
+    packed (up_to_byte (with_coded_picture t coded [])) c.in_ok-payload.payload.items
     (subst (λ (l : List ℕ). AllByRecursion (λ b. b < 2 ^ 8) l) c.as_slice.ensures.value c.are_bytes.ensures)
     (c.in_ok-payload.ensures.value ∙ ap (λ (s : Sequence). up_to_byte (with_coded s t.blocks t.precision coded [])) c.sequence_of-sequence.ensures.value)
-    ∙ ap (λ (x : CodedPicture). bytes_of (up_to_byte (with_picture t x []))) c.in_ok-coded.ensures in
+    ∙ ap (λ (x : CodedPicture). bytes_of (up_to_byte (with_coded_picture t x []))) c.in_ok-coded.ensures in
     record {
       payload = exact;
       shown = shown;

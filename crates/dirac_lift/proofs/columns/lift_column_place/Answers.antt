@@ -1,10 +1,28 @@
-use Rattle.std.proofs.Common.{◌≡◌, pos, ◌+◌, ◌*◌, length, slice_index_or, slice_set, to_z, of_z, arith, ap, ap₂, ◌∙◌}
+use Rattle.std.proofs.Common.{◌≡◌, pos, ◌+◌, ◌*◌, length, slice_index_or, slice_set, to_z, of_z, unsigned_abs, arith, ap, ap₂, ◌∙◌}
 use Rattle.std.specs.Int.{w128}
 use Rattle.std.proofs.lemmas.Int.{to_z-of_z}
 use Rattle.std.proofs.lemmas.Nat.{mul-add-lt}
 use Rattle.dirac_lift.specs.Level.{column}
 use Rattle.dirac_lift.specs.Lifting.{moved, own, rounded, value_read, weighted}
 use Rattle.dirac_lift.proofs.columns.lift_column_place.Goals as goal
+
+pub weighted_in_column-sum-requires : goal.weighted_in_column-sum-requires
+weighted_in_column-sum-requires c = record {
+  len = c.requires.len;
+  across = c.requires.across;
+  parity = c.requires.parity;
+  pair = c.requires.pair;
+  values = c.requires.read;
+  taps = c.requires.taps;
+}
+
+pub rounded_sum-requires-clause-sum : goal.rounded_sum-requires-clause-sum
+rounded_sum-requires-clause-sum c = rw (to_z-of_z w128 _ (record { sfits = c.weighted_in_column-sum.type_inv })) c.weighted_in_column-sum.ensures.bound
+
+pub moved_value-moved-requires : goal.moved_value-moved-requires
+moved_value-moved-requires c =
+    rw (to_z-of_z w128 _ (record { sfits = c.value_in_column.type_inv }), to_z-of_z w128 _ (record { sfits = c.rounded_sum.type_inv }))
+    (omega (arith, ap unsigned_abs c.value_in_column.ensures, c.requires.changed, c.rounded_sum.ensures.bound))
 
 pub bounds-values-y : goal.bounds-values-y
 bounds-values-y c =

@@ -1,19 +1,17 @@
-use Rattle.std.proofs.Common.{rules, ◌+◌, ◌-◌, pos, slice_index_or, length, to_z, of_z, arith}
-use Rattle.std.specs.Int.{w32}
-use Rattle.std.proofs.lemmas.Int.{to_z-of_z}
-use mir.Val.{SFits}
+use Rattle.std.proofs.Common.{rules, ◌+◌, ◌-◌, pos, slice_index_or, length, arith, ap}
 use Rattle.dirac_lift.specs.Halves.{half_read}
-use Rattle.dirac_lift.proofs.HalfLemmas.{tap_fits, sum_fits, abs-read, abs-read_is}
+use Rattle.dirac_lift.proofs.HalfLemmas.{abs-read, read_fits, read_more, sum_fits}
 use Rattle.dirac_lift.proofs.halves.weighted_inside.Goals as goal
 
 pub multiply_add-sum-requires : goal.multiply_add-sum-requires
 multiply_add-sum-requires c =
-    let tap : SFits w32 (slice_index_or c.args.taps.now c.loop-k.k (pos 0)) = search rules in
-    let value : SFits w32 (slice_index_or c.args.other.now (c.args.n - c.args.step.lead + c.loop-k.k) (pos 0)) = search rules in
-    tap_fits c.args.taps.now (half_read c.args.step.lead 1 (length c.args.other.now) c.args.other.now c.args.n 0) c.requires.read.bound _ c.loop-k.k _ _ (to_z w32 (of_z w32 (slice_index_or c.args.other.now (c.args.n - c.args.step.lead + c.loop-k.k) (pos 0))))
-    c.loop-k.invariant (to_z-of_z w32 _ tap)
-    (abs-read_is _ c.args.other.now (c.args.n - c.args.step.lead + c.loop-k.k) _ c.requires.read.within (to_z-of_z w32 _ value))
-    (λ k. abs-read _ c.args.other.now _ c.requires.read.within) c.loop-k-test.true c.requires.read.fits
+    read_fits c.args.taps.now c.args.other.now (half_read c.args.step.lead 1 (length c.args.other.now) c.args.other.now c.args.n 0) c.requires.read.bound _ c.loop-k.k (c.args.n - c.args.step.lead + c.loop-k.k) _ (search rules) (search rules)
+    c.loop-k.invariant c.requires.read.within (λ k. abs-read _ c.args.other.now _ c.requires.read.within) c.loop-k-test.true c.requires.read.fits
+
+pub loop-k-preserved : goal.loop-k-preserved
+loop-k-preserved c =
+    read_more c.args.taps.now c.args.other.now (half_read c.args.step.lead 1 (length c.args.other.now) c.args.other.now c.args.n 0) c.loop-k.k (c.args.n - c.args.step.lead + c.loop-k.k) _ _ (search rules) (search rules) (record { sfits = c.multiply_add-sum.type_inv })
+    c.loop-k.invariant (ap (λ i. slice_index_or c.args.other.now i (pos 0)) (omega arith)) c.multiply_add-sum.ensures
 
 pub returns-clause-bound : goal.returns-clause-bound
 returns-clause-bound c =

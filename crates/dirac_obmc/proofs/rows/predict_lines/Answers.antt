@@ -3,7 +3,7 @@ use Rattle.std.proofs.Math.Nat.{mul_comm, zero-mul}
 use Rattle.std.proofs.lemmas.List.Edits.{length-between}
 use Rattle.std.proofs.lemmas.Nat.{mul-le}
 use Rattle.dirac_obmc.specs.Compensation.{predicted_at}
-use Rattle.dirac_obmc.specs.Given.{given}
+use Rattle.dirac_obmc.specs.Given.{compensation_of}
 use Rattle.dirac_obmc.proofs.StripRows.{IsStrip, rows_written_more, strip_is, told_down, zeros_between}
 use Rattle.dirac_obmc.proofs.rows.predict_lines.Goals as goal
 
@@ -68,9 +68,9 @@ loop-n-preserved c =
       room_fits = c.predict_strip.ensures.room_fits;
       rows =
           rw next
-          (rows_written_more (λ p. predicted_at (given c.args.motion.now) (p % w) (first + p / w)) w n rows (w * rows) _ (e * w - (first + 64 * c.loop-n.n - first) * w) e c.loop-n.out c.predict_strip.new.out
+          (rows_written_more (λ p. predicted_at (compensation_of c.args.motion.now) (p % w) (first + p / w)) w n rows (w * rows) _ (e * w - (first + 64 * c.loop-n.n - first) * w) e c.loop-n.out c.predict_strip.new.out
           c.loop-n.invariant.rows size refl s.start_is (omega (arith, c.min-end.ensures)) (omega (arith, c.min-end.ensures)) s.count (omega (arith, c.predict_strip.auto.out, strip))
-          (λ i l. c.predict_strip.ensures.value i (omega (arith, l, c.predict_strip.auto.out)) ∙ told_down (predicted_at (given c.args.motion.now)) w n i first (omega (arith, c.requires.blending.motion.some_across))));
+          (λ i l. c.predict_strip.ensures.value i (omega (arith, l, c.predict_strip.auto.out)) ∙ told_down (predicted_at (compensation_of c.args.motion.now)) w n i first (omega (arith, c.requires.blending.motion.some_across))));
     }
 
 pub returns : goal.returns

@@ -1,7 +1,7 @@
 use Rattle.std.proofs.Common.{pos, ◌+◌, ◌-◌, ◌*◌, get_or, arith, refl, ap, ◌∙◌}
 use Rattle.std.proofs.lemmas.List.{take_at}
 use Rattle.std.proofs.lemmas.Nat.{mul-le, row_fits}
-use Rattle.dirac_obmc.specs.Given.{given}
+use Rattle.dirac_obmc.specs.Given.{compensation_of}
 use Rattle.dirac_obmc.proofs.StripLemmas.{predicts_at, room_rows, whole_rows}
 use Rattle.dirac_obmc.proofs.rows.predict_run.Goals as goal
 
@@ -35,4 +35,4 @@ returns-clause-values c =
     let w = c.args.width in
     λ r k a b. ap (λ vs. get_or vs (r * w + k) (pos 0)) (take_at c.block_front.new.out _ _ (c.block_front.auto.out ∙ c.as_mut_slice-3.ensures.len))
     ∙ c.block_front.ensures (r * w + k) (omega (arith, row_fits r w n w a (omega arith), b))
-    ∙ predicts_at (given c.args.motion.now) _ _ c.args.left c.args.down.start w r k b c.at-block.ensures.value
+    ∙ predicts_at (compensation_of c.args.motion.now) _ _ c.args.left c.args.down.start w r k b c.at-block.ensures.value

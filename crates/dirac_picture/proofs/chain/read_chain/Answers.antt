@@ -3,13 +3,13 @@ use Rattle.std.proofs.lemmas.Option.{slice_get-get_or}
 use Rattle.dirac_coeffs.specs.declared.layout.CodedBand.{CodedBand}
 use Rattle.dirac_coeffs.specs.Grammar.{IsCodedBand}
 use Rattle.dirac_picture.specs.Bands.{layout_of}
-use Rattle.dirac_picture.specs.Chains.{AreLawful}
+use Rattle.dirac_picture.specs.Chains.{AreBandsOfOrientation}
 use Rattle.dirac_picture.proofs.Levels.{chain_inside, chain_more, lawful_more}
 use Rattle.dirac_picture.proofs.chain.read_chain.Goals as goal
 
 pub read_next-requires-clause-before : goal.read_next-requires-clause-before
 read_next-requires-clause-before c =
-    subst (λ (l : List CodedBand). AreLawful c.args.transform.now c.args.size.width c.args.size.height c.args.first l) (sym c.as_slice.ensures.value) c.levels.invariant.lawful
+    subst (λ (l : List CodedBand). AreBandsOfOrientation c.args.transform.now c.args.size.width c.args.size.height c.args.first l) (sym c.as_slice.ensures.value) c.levels.invariant.lawful
 
 pub levels-preserved : goal.levels-preserved
 levels-preserved c =

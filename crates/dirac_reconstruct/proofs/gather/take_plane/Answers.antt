@@ -1,6 +1,6 @@
 use Rattle.std.proofs.Common.{◌-◌, length, arith}
 use Rattle.dirac_reconstruct.proofs.InOrder.{but_last, ends_with_texts, plane_taken, some_at_end}
-use Rattle.dirac_reconstruct.specs.Parts.{bands_in}
+use Rattle.dirac_reconstruct.specs.Parts.{bands_per_plane}
 use Rattle.dirac_reconstruct.proofs.gather.take_plane.Goals as goal
 
 pub unreachable-requires : goal.unreachable-requires
@@ -16,5 +16,5 @@ returns-clause-plane c = λ o are.
 
 pub returns-clause-rest : goal.returns-clause-rest
 returns-clause-rest c =
-    but_last c.args.parts.now.items c.take_text.new.parts.items c.take_last-part.new.parts.items (length c.args.parts.now.items - bands_in c.args.from.now) _ (omega arith)
+    but_last c.args.parts.now.items c.take_text.new.parts.items c.take_last-part.new.parts.items (length c.args.parts.now.items - bands_per_plane c.args.from.now) _ (omega arith)
     c.in_ok-text.ensures.rest c.take_last-part.ensures.rest (omega arith)

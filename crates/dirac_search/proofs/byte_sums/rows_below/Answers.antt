@@ -1,20 +1,20 @@
-use Rattle.std.proofs.Common.{◌≡◌, ◌+◌, arith, ap, ◌∙◌}
+use Rattle.std.proofs.Common.{arith, ap₂, ◌∙◌}
 use Rattle.dirac_costs.specs.Sums.{sum_below}
-use Rattle.dirac_costs.proofs.Sums.{sum_grows}
-use Rattle.dirac_search.specs.InBytes.{strided_rows}
+use Rattle.dirac_search.specs.Rows.{apart_at}
+use Rattle.dirac_search.proofs.Stopping.{ended, stopped, sums_begun, sums_more}
 use Rattle.dirac_search.proofs.byte_sums.rows_below.Goals as goal
 
-pub returns-then-sum-tried-clause-above : goal.returns-then-sum-tried-clause-above
-returns-then-sum-tried-clause-above c =
-    let grow = sum_grows (strided_rows c.args.a.now c.args.left c.args.b.now c.args.right) c.rows.k c.args.tried.window.rows (omega arith) in
-    (omega (arith, grow, c.rows.invariant.value, c.if-sum-tried.true), omega (arith, c.rows.invariant.small, c.if-sum-tried.true, c.rows-test.true, c.requires.tried.window.rows))
+pub rows-init : goal.rows-init
+rows-init c = sums_begun _ _ _ c.requires.tried.at_most_66300
 
-pub returns-then-sum-tried-2-clause-below : goal.returns-then-sum-tried-2-clause-below
-returns-then-sum-tried-2-clause-below c =
-    (c.rows.invariant.value ∙ ap (λ n. c.args.tried.first + sum_below (strided_rows c.args.a.now c.args.left c.args.b.now c.args.right) n) (omega arith), c.if-sum-tried-2.true)
+pub returns-then-sum-tried : goal.returns-then-sum-tried
+returns-then-sum-tried c = stopped _ _ 2040 _ c.rows.k _ _ c.rows.invariant c.if-sum-tried.true (omega arith) c.requires.tried.window.rows (omega arith)
 
-pub returns-else-sum-tried-2-clause-above : goal.returns-else-sum-tried-2-clause-above
-returns-else-sum-tried-2-clause-above c =
-    let all : c.rows.k ≡ c.args.tried.window.rows = omega arith in
-    let whole = c.rows.invariant.value ∙ ap (λ n. c.args.tried.first + sum_below (strided_rows c.args.a.now c.args.left c.args.b.now c.args.right) n) all in
-    (omega (arith, whole, c.if-sum-tried-2.false), omega (arith, c.rows.invariant.small, c.if-sum-tried-2.false, c.requires.tried.window.rows, c.rows.auto.k-end))
+pub rows-preserved : goal.rows-preserved
+rows-preserved c =
+    sums_more _ _ 2040 c.rows.k _ _ c.rows.invariant
+    (c.eight_apart-sum.ensures.value ∙ ap₂ (λ m n. sum_below (apart_at c.args.a.now m c.args.b.now n) 8) c.row_start.ensures c.row_start-in-rows.ensures)
+    c.eight_apart-sum.ensures.at_most_2040
+
+pub returns : goal.returns
+returns c = ended _ _ 2040 _ c.rows.k _ _ _ c.rows.invariant (omega arith) c.if_below.ensures

@@ -1,18 +1,18 @@
 use Rattle.std.proofs.Common.{ℕ, ◌^◌, ◌∙◌, subst, sym}
 use Rattle.std.specs.List.{All}
 use Rattle.std.proofs.lemmas.List.Elements.{All-filter}
-use Rattle.dirac_inside.specs.Inside.{times}
+use Rattle.dirac_inside.specs.Inside.{vector_times}
 use Rattle.dirac_inside.specs.Ranges.{HasTheInside, is_in}
 use Rattle.dirac_inside.specs.declared.picture_blocks.PictureBlocks.{PictureBlocks}
 use Rattle.dirac_search.specs.Candidates.{IsWithinReach}
-use Rattle.dirac_search.specs.Given.{given}
+use Rattle.dirac_search.specs.Given.{searched_of}
 use Rattle.dirac_search.specs.Kept.{precision_of}
 use Rattle.dirac_search.proofs.Keeping.{range_keeps}
 use Rattle.dirac_search.proofs.kept.push_kept.Goals as goal
 
 pub returns-clause-value : goal.returns-clause-value
 returns-clause-value c =
-    let g = given c.args.staged.now.search.now in
+    let g = searched_of c.args.staged.now.search.now in
     let s = c.args.staged.now.settings.now in
     let st = c.args.staged.now.stage in
     let range = c.inside_range-range.result in
@@ -24,4 +24,4 @@ returns-clause-value c =
 pub returns-clause-within : goal.returns-clause-within
 returns-clause-within c =
     subst (All (IsWithinReach (2 ^ 24))) (sym c.in_ok-push_inside.ensures)
-    (All-filter (λ v. is_in c.inside_range-range.result (times c.samples_of.result v)) (IsWithinReach (2 ^ 24)) c.args.list.now c.requires.within)
+    (All-filter (λ v. is_in c.inside_range-range.result (vector_times c.samples_of.result v)) (IsWithinReach (2 ^ 24)) c.args.list.now c.requires.within)

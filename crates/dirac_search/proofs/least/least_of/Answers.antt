@@ -1,14 +1,13 @@
 use Rattle.std.proofs.Common.{◌+◌, arith, ◌∙◌, ap, sym, refl}
 use Rattle.dirac_search.specs.Candidates.{no_motion}
-use Rattle.dirac_search.specs.Costs.{window_cost}
-use Rattle.dirac_search.specs.Given.{given}
+use Rattle.dirac_search.specs.Staged.{cost_at}
 use Rattle.dirac_search.proofs.Choosing.{least_taken, least_kept}
 use Rattle.dirac_search.proofs.least.least_of.Goals as goal
 use Rattle.dirac_search.proofs.least.least_of.Goals.{in-Some, in-None}
 
 pub loop-k-preserved : goal.loop-k-preserved
 loop-k-preserved c =
-    let cost = window_cost (given c.args.staged.now.search.now) c.args.staged.now.settings.now.bias c.args.staged.now.stage c.args.window in
+    let cost = cost_at c.args.staged.now c.args.window in
     elim c.match-better_cost.branch [
       | in-Some w ↦ record {
         found =

@@ -1,20 +1,20 @@
-use Rattle.std.proofs.Common.{◌≡◌, ◌+◌, arith, ap, ◌∙◌}
-use Rattle.dirac_costs.proofs.Sums.{sum_grows}
-use Rattle.dirac_search.specs.Rows.{whole_row_apart, whole_rows}
+use Rattle.std.proofs.Common.{◌+◌, arith, ap, ◌∙◌}
+use Rattle.dirac_search.specs.Rows.{whole_row_apart}
+use Rattle.dirac_search.proofs.Stopping.{ended, stopped, sums_begun, sums_more}
 use Rattle.dirac_search.proofs.whole_sums.whole_below_by_rows.Goals as goal
 
-pub returns-then-sum-limit-clause-above : goal.returns-then-sum-limit-clause-above
-returns-then-sum-limit-clause-above c =
-    let w = c.args.tried.window in
-    let grow = sum_grows (λ r. whole_row_apart c.args.source.now c.args.reference.now w.x (w.y + r) c.args.tried.v w.columns) c.rows.k w.rows (omega arith) in
-    (omega (arith, grow, c.rows.invariant.value, c.if-sum-limit.true), omega (arith, c.rows.invariant.small, c.if-sum-limit.true, c.rows-test.true, c.requires.tried.window.rows))
+pub rows-init : goal.rows-init
+rows-init c = sums_begun _ _ _ c.requires.tried.at_most_66300
 
-pub returns-then-sum-limit-2-clause-below : goal.returns-then-sum-limit-2-clause-below
-returns-then-sum-limit-2-clause-below c =
-    (c.rows.invariant.value ∙ ap (λ n. c.args.tried.first + whole_rows c.args.source.now c.args.reference.now c.args.tried.window c.args.tried.v n) (omega arith), c.if-sum-limit-2.true)
+pub returns-then-sum-limit : goal.returns-then-sum-limit
+returns-then-sum-limit c = stopped _ _ 1048560 _ c.rows.k _ _ c.rows.invariant c.if-sum-limit.true (omega arith) c.requires.tried.window.rows (omega arith)
 
-pub returns-else-sum-limit-2-clause-above : goal.returns-else-sum-limit-2-clause-above
-returns-else-sum-limit-2-clause-above c =
-    let all : c.rows.k ≡ c.args.tried.window.rows = omega arith in
-    let whole = c.rows.invariant.value ∙ ap (λ n. c.args.tried.first + whole_rows c.args.source.now c.args.reference.now c.args.tried.window c.args.tried.v n) all in
-    (omega (arith, whole, c.if-sum-limit-2.false), omega (arith, c.rows.invariant.small, c.if-sum-limit-2.false, c.requires.tried.window.rows, c.rows.auto.k-end))
+pub rows-preserved : goal.rows-preserved
+rows-preserved c =
+    let t = c.args.tried in
+    sums_more _ _ 1048560 c.rows.k _ _ c.rows.invariant
+    (c.sum_whole_row-sum.ensures.value ∙ ap (whole_row_apart c.args.source.now c.args.reference.now t.window.x (t.window.y + c.rows.k) t.v) c.requires.of_the_window)
+    (omega (arith, c.sum_whole_row-sum.ensures.at_most_65535_each, c.requires.columns.at_most_16))
+
+pub returns : goal.returns
+returns c = ended _ _ 1048560 _ c.rows.k _ _ _ c.rows.invariant (omega arith) c.if_below.ensures

@@ -2,7 +2,7 @@ use Rattle.std.proofs.Common.{refl, sym, ap, ◌∙◌, arith, length, subst}
 use Rattle.std.specs.Io.KnownBytes.{Appends}
 use Rattle.dirac_io.specs.Writing.{AppendsFront}
 use Rattle.dirac_units.specs.Cut.{EachHasACut, front_of}
-use Rattle.dirac_units.specs.Progress.{Progress}
+use Rattle.dirac_units.specs.Progress.{CuttingProgress}
 use Rattle.dirac_units.proofs.Cuts.{cut_by}
 use Rattle.dirac_stream_commands.proofs.Inside.{listed_inside}
 use Rattle.dirac_stream_commands.proofs.Listed.{ListsSoFar, begins, goes_on, ends_done, ends_faulty, stops_between}
@@ -18,17 +18,17 @@ pub units-init : goal.units-init
 units-init g c =
     let first = g.S.Source.held c.args.source.now in
     let out = g.K.Sink.taken c.args.out.now in (
-      subst (λ (p : Progress). ListsSoFar p first first out out) (sym c.new-units.ensures) (begins first out),
-      ap (λ (p : Progress). p.stream_end) c.new-units.ensures,
+      subst (λ (p : CuttingProgress). ListsSoFar p first first out out) (sym c.new-units.ensures) (begins first out),
+      ap (λ (p : CuttingProgress). p.stream_end) c.new-units.ensures,
       omega (
         arith,
-        ap (λ (p : Progress). p.unit_place.at) c.new-units.ensures,
-        ap (λ (p : Progress). length p.ahead) c.new-units.ensures,
+        ap (λ (p : CuttingProgress). p.unit_place.at) c.new-units.ensures,
+        ap (λ (p : CuttingProgress). length p.ahead) c.new-units.ensures,
         g.met.S.Source.left_fits c.args.source.now,
       ),
       omega arith,
       omega arith,
-      subst (λ (p : Progress). ReadsSoFar p first first out out) (sym c.new-units.ensures) (begins_reading first out),
+      subst (λ (p : CuttingProgress). ReadsSoFar p first first out out) (sym c.new-units.ensures) (begins_reading first out),
     )
 
 pub returns-in_default-clause-listed : goal.returns-in_default-clause-listed

@@ -1,7 +1,12 @@
-use Rattle.std.proofs.Common.{ℤ, ◌+ℤ◌, arith}
+use Rattle.std.proofs.Common.{ℤ, pos, ◌+ℤ◌, slice_index_or, arith, refl}
 use Rattle.dirac_common.specs.Samples.{clip}
-use Rattle.dirac_synthesis.proofs.Maps.{mapped_both}
+use Rattle.dirac_synthesis.proofs.Maps.{mapped_both, one_more_told}
 use Rattle.dirac_synthesis.proofs.clip.clip_sums.Goals as goal
+
+pub loop-i-preserved : goal.loop-i-preserved
+loop-i-preserved c =
+    rw c.put_sum.ensures
+    (one_more_told (λ k. clip (slice_index_or c.args.residual.now k (pos 0) +ℤ slice_index_or c.args.predicted.now k (pos 0))) c.loop-i.samples c.loop-i.i _ c.loop-i.invariant (omega arith) refl)
 
 pub returns : goal.returns
 returns c =

@@ -7,6 +7,9 @@ use Rattle.dirac_quant.specs.Quantiser.{restored}
 use Rattle.dirac_synthesis.proofs.JoinedRows.{one_more, others_stay}
 use Rattle.dirac_synthesis.proofs.restore.restore_into.Goals as goal
 
+pub bounds-line-n : goal.bounds-line-n
+bounds-line-n c = omega (arith, mul-add-lt c.loop-n.n c.args.step c.args.first (length c.args.coded.now) (omega arith) c.requires.first)
+
 pub loop-n-preserved : goal.loop-n-preserved
 loop-n-preserved c =
     let coded : SFits w64 (slice_index_or c.args.coded.now c.loop-n.n (pos 0)) = search rules in

@@ -3,7 +3,7 @@ use Rattle.std.specs.Int.{w64}
 use Rattle.std.proofs.lemmas.Bool.{cases_eq, cases_lt}
 use Rattle.std.proofs.lemmas.Int.{to_z-of_z}
 use Rattle.std.proofs.lemmas.Nat.{row_fits}
-use Rattle.dirac_upconvert.specs.SubSamples.{AreParts}
+use Rattle.dirac_upconvert.specs.SubSamples.{AreAlternateSubSamples}
 use Rattle.dirac_upconvert.proofs.Lanes.{row_inside}
 use Rattle.dirac_upconvert.proofs.PartRows.{parts_told}
 use Rattle.dirac_upconvert.proofs.rows.eight_columns.Goals as goal
@@ -24,7 +24,7 @@ loop-j-preserved c =
     let across : ℤ = to_z w64 (of_z w64 c.args.across) in
     let down : ℤ = to_z w64 (of_z w64 c.args.down) in
     let lower : to_z w64 (of_z w64 c.ahead.result) ≡ down +ℤ pos (2 * n) = to_z-of_z w64 _ (record { sfits = c.ahead.type_inv }) ∙ c.ahead.ensures.value in
-    let row : AreParts t r.bits across (down +ℤ pos (2 * n)) r.right r.below c.row_parts.new.out =
+    let row : AreAlternateSubSamples t r.bits across (down +ℤ pos (2 * n)) r.right r.below c.row_parts.new.out =
     parts_told t r.bits _ _ _ _ _ _ _ _ c.row_parts.new.out (length c.row_parts.new.out) c.row_parts.ensures (omega arith) refl lower refl refl in
     record {
       eight = λ j k a b. elim (cases_eq j n) [

@@ -1,7 +1,7 @@
 use Rattle.std.proofs.Common.{◌≡◌, ℤ, pos, ◌+◌, ◌-◌, ◌*◌, ◌≤◌, ◌+ℤ◌, length, to_z, of_z, arith, refl, sym, ◌∙◌}
 use Rattle.std.specs.Int.{w64}
 use Rattle.std.proofs.lemmas.Int.{to_z-of_z}
-use Rattle.dirac_upconvert.specs.SubSamples.{AreParts}
+use Rattle.dirac_upconvert.specs.SubSamples.{AreAlternateSubSamples}
 use Rattle.dirac_upconvert.proofs.Lanes.{by_rows, by_rows_at, in_whole_rows, part_length, row_inside, rows_joined}
 use Rattle.dirac_upconvert.proofs.PartRows.{parts_told}
 use Rattle.dirac_upconvert.proofs.rows.whole_rows_of_parts.Goals as goal
@@ -20,7 +20,7 @@ loop-j-preserved c n l =
     let lower : to_z w64 (of_z w64 c.ahead.result) ≡ down +ℤ pos (2 * c.loop-j.j) = to_z-of_z w64 _ (record { sfits = c.ahead.type_inv }) ∙ c.ahead.ensures.value in
     let fits : c.loop-j.j * c.args.width + c.args.width ≤ length c.loop-j.out = omega (arith, row_inside (length c.args.out.now) w j c.loop-j-test.true, c.loop-j.auto.out) in
     let len : length c.row_parts.new.out ≡ c.args.width = omega (arith, c.row_parts.auto.out, part_length c.loop-j.out (j * w) (j * w + w) fits) in
-    let row : AreParts t r.bits across (down +ℤ pos (2 * c.loop-j.j)) r.right r.below c.row_parts.new.out =
+    let row : AreAlternateSubSamples t r.bits across (down +ℤ pos (2 * c.loop-j.j)) r.right r.below c.row_parts.new.out =
     parts_told t r.bits _ _ _ _ _ _ _ _ c.row_parts.new.out (length c.row_parts.new.out) c.row_parts.ensures (omega arith) refl lower refl refl in
     rows_joined w j (j + 1) (j * w) (j * w + w - j * w) (by_rows t r.bits across down r.right r.below w) c.loop-j.out c.row_parts.new.out c.loop-j.invariant refl len fits (omega arith)
     (λ i b. row i (omega (arith, b, len)) ∙ sym (by_rows_at t r.bits across down r.right r.below w j i b)) n l

@@ -1,7 +1,7 @@
 use Rattle.std.proofs.Common.{◌≡◌, Bool, Result, Ok, ap, sym, subst, arith}
 use Rattle.dirac_arith.specs.Carried.{Lies}
 use Rattle.dirac_arith.specs.Front.{front}
-use Rattle.dirac_arith.specs.Deciding.{decided}
+use Rattle.dirac_arith.specs.Deciding.{decision_read}
 use Rattle.dirac_arith.specs.Interval.{narrowed}
 use Rattle.dirac_arith.specs.Reading.{Reading}
 use Rattle.dirac_arith.specs.Decoding.{reading, reading_at}
@@ -31,8 +31,8 @@ returns-clause-narrows c =
     let sound = c.self.invariant in
     let open' = sound.inside c.if-self.false in
     let call = c.foreseen_from-decided in
-    let told = subst (λ (x : Reading). let y : Result (Bool × Reading) Cause = Ok (call.result.truth, reading_at call.new.self call.result.registers) in decided c.args.ctx (reading_at x a.registers) ≡ y) (sym c.self.view_is) call.ensures.read in
-    let here = subst (λ (x : Reading). let y : Result (Bool × Reading) Cause = Ok (call.result.truth, reading_at x call.result.registers) in decided c.args.ctx (reading a) ≡ y) (sym c.self-2.view_is) told in
+    let told = subst (λ (x : Reading). let y : Result (Bool × Reading) Cause = Ok (call.result.truth, reading_at call.new.self call.result.registers) in decision_read c.args.ctx (reading_at x a.registers) ≡ y) (sym c.self.view_is) call.ensures.read in
+    let here = subst (λ (x : Reading). let y : Result (Bool × Reading) Cause = Ok (call.result.truth, reading_at x call.result.registers) in decision_read c.args.ctx (reading a) ≡ y) (sym c.self-2.view_is) told in
     let after = decided_after c.args.ctx call.result.truth (reading a) _ open'.0 (lies_from_window a.block.now a.registers (reading a).at sound.stands open'.1) here in
     let new : Reading = reading (record { block = c.self-2.inside.block; registers = call.result.registers; contexts = c.self-2.inside.contexts; refused = c.self-2.inside.refused }) in
     subst (λ (x : Reading). new ≡ record { block = x.block; at = narrowed x.at (c.args.ctx, call.result.truth) }) c.self.view_is after.0
@@ -43,7 +43,7 @@ returns-clause-lies_inside c =
     let sound = c.self.invariant in
     let open' = sound.inside c.if-self.false in
     let call = c.foreseen_from-decided in
-    let told = subst (λ (x : Reading). let y : Result (Bool × Reading) Cause = Ok (call.result.truth, reading_at call.new.self call.result.registers) in decided c.args.ctx (reading_at x a.registers) ≡ y) (sym c.self.view_is) call.ensures.read in
+    let told = subst (λ (x : Reading). let y : Result (Bool × Reading) Cause = Ok (call.result.truth, reading_at call.new.self call.result.registers) in decision_read c.args.ctx (reading_at x a.registers) ≡ y) (sym c.self.view_is) call.ensures.read in
     let after = decided_after c.args.ctx call.result.truth (reading a) _ open'.0 (lies_from_window a.block.now a.registers (reading a).at sound.stands open'.1) told in
     subst (λ (x : Reading). Lies x.block (narrowed x.at (c.args.ctx, call.result.truth))) c.self.view_is after.1
 

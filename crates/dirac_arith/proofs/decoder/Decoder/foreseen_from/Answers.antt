@@ -1,6 +1,6 @@
 use Rattle.std.proofs.Common.{◌≡◌, Bool, true, false, Result, Ok, slice_set, subst, sym}
 use Rattle.dirac_arith.specs.declared.decoder.Decoder.TheInside.{Inside}
-use Rattle.dirac_arith.specs.Deciding.{decided}
+use Rattle.dirac_arith.specs.Deciding.{decision_read}
 use Rattle.dirac_arith.specs.Decoding.{reading, reading_at}
 use Rattle.dirac_arith.specs.Reading.{Reading}
 use Rattle.dirac_arith.specs.Registers.{Runs}
@@ -16,7 +16,7 @@ returns-then-decided-clause-read c =
     let done = taken_from a c.args.registers c.args.ctx c.foresee-decided.result.truth true c.foresee-decided.result.registers c.fill.result c.adapt.result
     c.if-decided.true runs c.foresee-decided.ensures filled.stands filled.range filled.some_ahead filled.most_ahead filled.inside c.adapt.ensures.exact in
     let new : Inside = record { block = a.block; registers = c.fill.result; contexts = slice_set a.contexts c.args.ctx c.adapt.result; refused = a.refused } in
-    let P : Reading → Type 0 = λ x. let y : Result (Bool × Reading) Cause = Ok (true, reading new) in decided c.args.ctx (reading_at x c.args.registers) ≡ y in
+    let P : Reading → Type 0 = λ x. let y : Result (Bool × Reading) Cause = Ok (true, reading new) in decision_read c.args.ctx (reading_at x c.args.registers) ≡ y in
     subst P c.self.view_is done.read
 
 pub returns-then-decided-clause-runs : goal.returns-then-decided-clause-runs
@@ -45,7 +45,7 @@ returns-else-decided-clause-read c =
     let done = taken_from a c.args.registers c.args.ctx c.foresee-decided.result.truth false c.foresee-decided.result.registers c.fill-else-decided.result c.adapt-else-decided.result
     c.if-decided.false runs c.foresee-decided.ensures filled.stands filled.range filled.some_ahead filled.most_ahead filled.inside c.adapt-else-decided.ensures.exact in
     let new : Inside = record { block = a.block; registers = c.fill-else-decided.result; contexts = slice_set a.contexts c.args.ctx c.adapt-else-decided.result; refused = a.refused } in
-    let P : Reading → Type 0 = λ x. let y : Result (Bool × Reading) Cause = Ok (false, reading new) in decided c.args.ctx (reading_at x c.args.registers) ≡ y in
+    let P : Reading → Type 0 = λ x. let y : Result (Bool × Reading) Cause = Ok (false, reading new) in decision_read c.args.ctx (reading_at x c.args.registers) ≡ y in
     subst P c.self.view_is done.read
 
 pub returns-else-decided-clause-runs : goal.returns-else-decided-clause-runs

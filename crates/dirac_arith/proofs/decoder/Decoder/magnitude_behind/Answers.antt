@@ -5,7 +5,7 @@ use Rattle.std.proofs.Math.Nat.{pow-le-pow_right}
 use Rattle.dirac_common.specs.Bits.{bit_value}
 use Rattle.dirac_common.specs.declared.faults.Cause.{Cause}
 use Rattle.dirac_common.proofs.Digits.{bit_value-below}
-use Rattle.dirac_arith.specs.Deciding.{decided, number_from_digit}
+use Rattle.dirac_arith.specs.Deciding.{decision_read, number_from_digit}
 use Rattle.dirac_arith.specs.Reading.{Reading}
 use Rattle.dirac_arith.specs.Spelling.{follow_at}
 use Rattle.dirac_arith.proofs.Behind.{number_begins, number_ends, number_goes_on, number_shut_at, number_shut_first, number_too_long}
@@ -34,14 +34,14 @@ pub returns-in_err-last-clause-read : goal.returns-in_err-last-clause-read
 returns-in_err-last-clause-read c =
     λ before open'.
     let p = err_from_is_err_and c.from_residual-in_err-last.result c.from_residual-in_err-last.ensures.1 in
-    let here = subst (λ context. decided context c.digits.self ≡ Err c.in_err-last.field-0.0) c.follow_context.ensures.exact c.in_err-last.ensures.read in
+    let here = subst (λ context. decision_read context c.digits.self ≡ Err c.in_err-last.field-0.0) c.follow_context.ensures.exact c.in_err-last.ensures.read in
     rw (p.1, p.2) (c.digits.invariant.reads before open' ∙ number_shut_at c.args.follow.now c.args.bits c.digits.i (38 - c.digits.i) c.digits.value c.digits.self _ here)
 
 pub returns-then-last-clause-read : goal.returns-then-last-clause-read
 returns-then-last-clause-read c =
     λ before open'.
     let is = c.in_ok-last.ensures.read ∙ ap (λ (t : Bool). let x : Result (Bool × Reading) Cause = Ok (t, c.foreseen.new.self) in x) c.if-last.true in
-    let here = subst (λ context. decided context c.digits.self ≡ Ok (true, c.foreseen.new.self)) c.follow_context.ensures.exact is in
+    let here = subst (λ context. decision_read context c.digits.self ≡ Ok (true, c.foreseen.new.self)) c.follow_context.ensures.exact is in
     c.digits.invariant.reads before open' ∙ number_ends c.args.follow.now c.args.bits c.digits.i (38 - c.digits.i) c.digits.value c.digits.self c.foreseen.new.self here
 
 pub returns-then-last-clause-below_2_39 : goal.returns-then-last-clause-below_2_39
@@ -59,7 +59,7 @@ digits-preserved c =
     let left : 38 - c.digits.i ≡ suc (38 - (c.digits.i + 1)) = omega arith in
     let value : 2 * c.digits.value + bit_value c.in_ok-digit.digit ≡ c.digits.value * 2 + c.from.result = omega (arith, bit) in
     let is = c.in_ok-last.ensures.read ∙ ap (λ (t : Bool). let x : Result (Bool × Reading) Cause = Ok (t, c.foreseen.new.self) in x) c.if-last.false in
-    let here = subst (λ context. decided context c.digits.self ≡ Ok (false, c.foreseen.new.self)) c.follow_context.ensures.exact is in
+    let here = subst (λ context. decision_read context c.digits.self ≡ Ok (false, c.foreseen.new.self)) c.follow_context.ensures.exact is in
     record {
       reads = λ before open'.
           kept.reads before open'
@@ -78,7 +78,7 @@ returns-in_err-end-clause-read c =
     let p = err_from_is_err_and c.from_residual-in_err-end.result c.from_residual-in_err-end.ensures.1 in
     let at : c.digits.i ≡ 38 = omega arith in
     let place = c.follow_context-2.ensures.exact ∙ ap (λ i. follow_at c.args.follow.now i) (sym at) in
-    let here = subst (λ context. decided context c.digits.self ≡ Err c.in_err-end.field-0.0) place c.in_err-end.ensures.read in
+    let here = subst (λ context. decision_read context c.digits.self ≡ Err c.in_err-end.field-0.0) place c.in_err-end.ensures.read in
     rw (p.1, p.2) (c.digits.invariant.reads before open' ∙ number_shut_at c.args.follow.now c.args.bits c.digits.i (38 - c.digits.i) c.digits.value c.digits.self _ here)
 
 pub returns-then-end-clause-read : goal.returns-then-end-clause-read
@@ -87,7 +87,7 @@ returns-then-end-clause-read c =
     let at : c.digits.i ≡ 38 = omega arith in
     let place = c.follow_context-2.ensures.exact ∙ ap (λ i. follow_at c.args.follow.now i) (sym at) in
     let is = c.in_ok-end.ensures.read ∙ ap (λ (t : Bool). let x : Result (Bool × Reading) Cause = Ok (t, c.foreseen-2.new.self) in x) c.if-end.true in
-    let here = subst (λ context. decided context c.digits.self ≡ Ok (true, c.foreseen-2.new.self)) place is in
+    let here = subst (λ context. decision_read context c.digits.self ≡ Ok (true, c.foreseen-2.new.self)) place is in
     c.digits.invariant.reads before open' ∙ number_ends c.args.follow.now c.args.bits c.digits.i (38 - c.digits.i) c.digits.value c.digits.self c.foreseen-2.new.self here
 
 pub returns-then-end-clause-below_2_39 : goal.returns-then-end-clause-below_2_39
@@ -102,7 +102,7 @@ returns-clause-read c =
     let left : 38 - c.digits.i ≡ 0 = omega arith in
     let place = c.follow_context-2.ensures.exact ∙ ap (λ i. follow_at c.args.follow.now i) (sym at) in
     let is = c.in_ok-end.ensures.read ∙ ap (λ (t : Bool). let x : Result (Bool × Reading) Cause = Ok (t, c.foreseen-2.new.self) in x) c.if-end.false in
-    let here = subst (λ context. decided context c.digits.self ≡ Ok (false, c.foreseen-2.new.self)) place is in
+    let here = subst (λ context. decision_read context c.digits.self ≡ Ok (false, c.foreseen-2.new.self)) place is in
     c.digits.invariant.reads before open'
     ∙ ap (λ n. number_from_digit c.args.follow.now c.args.bits c.digits.i n c.digits.value c.digits.self) left
     ∙ number_too_long c.args.follow.now c.args.bits c.digits.i c.digits.value c.digits.self c.foreseen-2.new.self here

@@ -5,7 +5,7 @@ use Rattle.dirac_common.specs.Numbers.{digits_of}
 use Rattle.dirac_common.specs.Bits.{bit_value}
 use Rattle.dirac_common.proofs.Digits.{bit_value-below}
 use Rattle.dirac_arith.specs.Front.{front}
-use Rattle.dirac_arith.specs.Reading.{Reading, Reads}
+use Rattle.dirac_arith.specs.Reading.{Reading, DecisionsAreRead}
 use Rattle.dirac_arith.specs.Spelling.{spelt}
 use Rattle.dirac_arith.proofs.Numbers.{reads_spelt, reads_spelling, reads_digit, digits_grow, digits_none, reads_none, bit_of_byte}
 use Rattle.dirac_arith.proofs.decoder.Decoder.read_number.Goals as goal
@@ -70,7 +70,7 @@ returns-clause-long c =
     let taken = c.in_ok-end.ensures in
     let digits = digits_of (c.digits.value - 1) in
     let count : length digits ≡ 38 = kept.digits ∙ omega arith in
-    let P : Bool → Type 0 = λ t. Reads c.args.self.now (spelt c.args.follow.now c.args.bits digits t) c.foreseen-2.new.self in (
+    let P : Bool → Type 0 = λ t. DecisionsAreRead c.args.self.now (spelt c.args.follow.now c.args.bits digits t) c.foreseen-2.new.self in (
       digits,
       count,
       subst P c.if-end.false

@@ -1,5 +1,5 @@
 use Rattle.std.proofs.Common.{◌≡◌, ◌+◌, ◌*◌, ◌/◌, ◌^◌, ◌≤◌, slice_index, sym, subst, ap, ◌∙◌, arith}
-use Rattle.dirac_arith.specs.Registers.{part_of}
+use Rattle.dirac_arith.specs.Registers.{part_width}
 use Rattle.dirac_arith.specs.Tail.{Waiting}
 use Rattle.dirac_arith.proofs.Decisions.{probabilities_set}
 use Rattle.dirac_arith.proofs.Encodings.{kept_within, kept_register, part_some}
@@ -24,7 +24,7 @@ advance-requires-clause-amount c =
     let settled = c.in_ok-settle.ensures in
     let kept = settled.register c.self.inside.range sound.narrow sound.register in
     let parts = c.sub_interval_after-part.ensures in
-    let some = part_some (part_of c.self.inside.range (c.self.inside.range * slice_index c.self.inside.contexts c.args.ctx / 65536) c.args.truth) _ c.sub_interval_after-part.result.range parts.wide parts.range in
+    let some = part_some (part_width c.self.inside.range (c.self.inside.range * slice_index c.self.inside.contexts c.args.ctx / 65536) c.args.truth) _ c.sub_interval_after-part.result.range parts.wide parts.range in
     omega (arith, parts.within)
 
 pub invariant_of-self-2 : goal.invariant_of-self-2
@@ -34,7 +34,7 @@ invariant_of-self-2 c =
     let settled = c.in_ok-settle.ensures in
     let parts = c.sub_interval_after-part.ensures in
     let result = c.sub_interval_after-part.result in
-    let part = part_of a.range (a.range * slice_index a.contexts c.args.ctx / 65536) c.args.truth in
+    let part = part_width a.range (a.range * slice_index a.contexts c.args.ctx / 65536) c.args.truth in
     let tail = c.settle.new.self in
     let range_is : result.range ≡ part * 2 ^ result.doublings = parts.range ∙ ap (λ k. part * 2 ^ k) (sym parts.doublings) in
     let register = settled.register a.range sound.narrow sound.register in

@@ -4,8 +4,8 @@ use Rattle.std.proofs.lemmas.Bool.{both_ways}
 use Rattle.std.proofs.lemmas.Nat.{pow_pos, pow-add, one_shl}
 use Rattle.dirac_arith.specs.Interval.{Interval, interval_of}
 use Rattle.dirac_arith.specs.Tail.{Waiting}
-use Rattle.dirac_arith.specs.Written.{bytes_of, flushed}
-use Rattle.dirac_arith.specs.Encoding.{encoding}
+use Rattle.dirac_arith.specs.Written.{number_in_bytes, flushed_interval}
+use Rattle.dirac_arith.specs.Encoding.{exact_interval}
 use Rattle.dirac_arith.proofs.Encodings.{flush_of_fresh, flush_of_begun, bytes_of_last, bytes_none}
 use Rattle.dirac_arith.proofs.Tails.{roomy}
 use Rattle.dirac_arith.proofs.encoder.Encoder.finish.Goals as goal
@@ -60,7 +60,7 @@ returns c =
     let view = c.self.view_is ∙ e in
     let gap = c.gap-gap.result in
     let a = c.self.inside in
-    let s = encoding a in
+    let s = exact_interval a in
     let facts = c.gap-gap.ensures in
     let written = c.in_ok-write.ensures in
     let top = one_shl (16 - gap) 32 (omega (arith, facts.at_least_2)) in
@@ -74,7 +74,7 @@ returns c =
       | else-range-eq65535-via-then-range-eq65535+else-is_fresh w ↦ both_ways w.is_fresh.result w.if-is_fresh.false (w.is_fresh.ensures.doublings.1 none_here)
       | else-range-eq65535-via-else-range-eq65535 w ↦ w.if-range-eq65535.false full_here
     ] in
-    let same = ap flushed view ∙ flush_of_begun ds begun in
+    let same = ap flushed_interval view ∙ flush_of_begun ds begun in
     let second = c.in_ok-write-2.ensures in
     let advanced = c.advance.ensures in
     let value_is : c.write-2.new.self.value ≡ (s.low + (s.range - 2 ^ (16 - gap))) * 2 ^ gap =
@@ -84,6 +84,6 @@ returns c =
     let doublings_is : c.write-2.new.self.doublings ≡ s.doublings + gap =
     second.doublings ∙ ap (λ (t : Waiting). t.doublings) advanced ∙ ap (λ x. x + gap) written.doublings in
     c.into_bytes-2.ensures
-    ∙ ap (λ d. bytes_of (d / 8) (c.write-2.new.self.value / 65536)) doublings_is
-    ∙ ap (λ v. bytes_of ((s.doublings + gap) / 8) (v / 65536)) value_is
+    ∙ ap (λ d. number_in_bytes (d / 8) (c.write-2.new.self.value / 65536)) doublings_is
+    ∙ ap (λ v. number_in_bytes ((s.doublings + gap) / 8) (v / 65536)) value_is
     ∙ last ∙ same

@@ -4,7 +4,7 @@ use Rattle.std.proofs.lemmas.Bool.{cases_lt}
 use Rattle.std.proofs.lemmas.List.{length_push}
 use Rattle.dirac_common.specs.Numbers.{digits_of}
 use Rattle.dirac_arith.specs.Interval.{narrowed_by}
-use Rattle.dirac_arith.specs.Spelling.{opening}
+use Rattle.dirac_arith.specs.Spelling.{opening_digits}
 use Rattle.dirac_arith.proofs.Numbers.{digits_none}
 use Rattle.dirac_arith.proofs.Encodings.{prefix_first, prefix_next, taken_digit, taken_last}
 use Rattle.dirac_arith.proofs.encoder.Encoder.number.Goals as goal
@@ -15,7 +15,7 @@ digits-init c =
     let first = prefix_first (c.args.value + 1) c.ilog2-count.result log.power_le log.next_power_gt in
     let none : digits_of ((c.args.value + 1) / 2 ^ (c.ilog2-count.result - 0) - 1) ≡ [] = ap digits_of first ∙ digits_none in
     record {
-      taken = ap (λ ds. narrowed_by c.args.self.now (opening c.args.follow.now c.args.bits 0 ds)) (sym none);
+      taken = ap (λ ds. narrowed_by c.args.self.now (opening_digits c.args.follow.now c.args.bits 0 ds)) (sym none);
       digits = ap (length {A = Bool}) none;
     }
 
@@ -37,7 +37,7 @@ digits-preserved c =
       taken =
           taken_digit c.args.self.now c.digits.self c.decision.new.self c.decision-in-digits.new.self c.args.follow.now c.args.bits c.follow_context.result c.digits.i digits bit
           kept.taken kept.digits c.follow_context.ensures.exact c.in_ok-decision.ensures.taken c.in_ok-decision-2.ensures.taken
-          ∙ ap (λ ds. narrowed_by c.args.self.now (opening c.args.follow.now c.args.bits 0 ds)) (sym next);
+          ∙ ap (λ ds. narrowed_by c.args.self.now (opening_digits c.args.follow.now c.args.bits 0 ds)) (sym next);
       digits = ap (length {A = Bool}) next ∙ length_push digits bit ∙ ap (λ n. n + 1) kept.digits;
     }
 

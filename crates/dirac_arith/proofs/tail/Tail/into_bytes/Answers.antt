@@ -2,7 +2,7 @@ use Rattle.std.proofs.Common.{◌≡◌, ◌<◌, ◌/◌, ℕ, get_or, length, 
 use Rattle.std.proofs.lemmas.Bool.{cases_lt}
 use Rattle.std.proofs.lemmas.List.{get_or_past}
 use Rattle.dirac_arith.specs.Tail.{Waiting}
-use Rattle.dirac_arith.specs.Written.{bytes_of}
+use Rattle.dirac_arith.specs.Written.{number_in_bytes}
 use Rattle.dirac_arith.proofs.Tails.{whole_bytes}
 use Rattle.dirac_arith.proofs.tail.Tail.into_bytes.Goals as goal
 
@@ -15,5 +15,5 @@ returns c =
     let below = subst P (sym c.self.view_is) c.requires.settled in
     let fits : (i : ℕ) → get_or bs i 0 < 256 = λ i.
     elim (cases_lt i (length bs)) [ inl inside ↦ omega arith | inr past ↦ let e = get_or_past bs i 0 past in omega arith ] in
-    let Q : Waiting → Type 0 = λ x. bs ≡ bytes_of (x.doublings / 8) (x.value / 65536) in
+    let Q : Waiting → Type 0 = λ x. bs ≡ number_in_bytes (x.doublings / 8) (x.value / 65536) in
     subst Q c.self.view_is (whole_bytes bs a.register a.pending fits none below)

@@ -26,13 +26,4 @@ returns-clause-put c =
     rw (← c.self.view_is, c.set.ensures) is
 
 pub returns-clause-lawful : goal.returns-clause-lawful
-returns-clause-lawful c =
-    let t : BlockTable = record { across = c.self.inside.across; down = c.self.inside.down; refs = c.self.inside.refs; splits = c.self.inside.splits; blocks = c.self.inside.blocks } in
-    let across : t.across ≡ c.args.self.now.across = ap (λ v. v.across) c.self.view_is in
-    let down : t.down ≡ c.args.self.now.down = ap (λ v. v.down) c.self.view_is in
-    let refs : t.refs ≡ c.args.self.now.refs = ap (λ v. v.refs) c.self.view_is in
-    let units : All (IsBlock t.refs) c.args.units.now = subst (λ r. All (IsBlock r) c.args.units.now) (sym refs) c.requires.units in
-    let whole : IsBlockTable (table_put t c.args.sx c.args.sy c.args.split c.put_superblock.new.blocks) =
-    put_lawful t c.args.sx c.args.sy c.args.split c.args.units.now c.put_superblock.new.blocks c.self.invariant (omega arith) (omega arith) c.requires.split
-    c.put_superblock.ensures.rows (c.put_superblock.ensures.lawful t.refs units c.self.invariant.blocks) in
-    rw c.set.ensures whole
+returns-clause-lawful c = invariant_of-self c

@@ -1,7 +1,7 @@
 use Rattle.std.proofs.Common.{◌≡◌, ◌+◌, ◌∙◌, ap, arith, false, true, length, refl, subst, sym, [], ◌∷◌, None, Some, Ok, Err}
 use Rattle.std.specs.Io.KnownBytes.{append_known}
 use Rattle.dirac_units.specs.declared.unit.StreamEnd.TheVariants as stream_end
-use Rattle.dirac_units.specs.Progress.{Progress}
+use Rattle.dirac_units.specs.Progress.{CuttingProgress}
 use Rattle.dirac_decode.specs.declared.answers.Next.TheVariants as next
 use Rattle.dirac_decode.specs.declared.step.Halt.{Halt}
 use Rattle.dirac_decode.specs.declared.step.Step.{Step}
@@ -39,7 +39,7 @@ returns-in-Ok-Shown g c =
             c.self.inside.draining false c.self.inside.given (c.self.inside.given + 1) c.self.inside.stream_end
             (append_known held more) (append_known held more) (append_known held' more) (c.in-Ok-Shown.picture ∷ []) (leads_same a here (append_known held more) c.self.view_is) c.in-None.ensures.settles c.in-Going.is
             (subst (λ (s : Step). Advances (Ok s) c.self.inside.units c.advance_by_unit.new.units c.next_due.new.state c.advance_by_unit.new.state (append_known held more) (append_known held' more)) c.in-Ok-Shown.field-0-is
-            (c.in-Ok-Shown.ensures.advances_before_more (subst (λ (u : Progress). IsThere u held) (sym (ap (λ (d : Decoding). d.units) c.self.view_is)) there) more)),
+            (c.in-Ok-Shown.ensures.advances_before_more (subst (λ (u : CuttingProgress). IsThere u held) (sym (ap (λ (d : Decoding). d.units) c.self.view_is)) there) more)),
         given,
         stopped,
       );
@@ -152,7 +152,7 @@ returns-in-Ok-On-clause-before_more g c =
       leads_going a c.self.inside.units c.advance_by_unit.new.units c.self.inside.state c.next_due.new.state c.advance_by_unit.new.state c.self.inside.draining false c.self.inside.given c.self.inside.given c.self.inside.stream_end
           (append_known held more) (append_known held more) (append_known (g.S.Source.held c.advance_by_unit.new.source) more) [] (leads_same a here (append_known held more) c.self.view_is) c.in-None.ensures.settles c.in-Going.is
           (subst (λ (s : Step). Advances (Ok s) c.self.inside.units c.advance_by_unit.new.units c.next_due.new.state c.advance_by_unit.new.state (append_known held more) (append_known (g.S.Source.held c.advance_by_unit.new.source) more)) c.in-Ok-On.field-0-is
-          (c.in-Ok-On.ensures.advances_before_more (subst (λ (u : Progress). IsThere u held) (sym (ap (λ (d : Decoding). d.units) c.self.view_is)) there) more)),
+          (c.in-Ok-On.ensures.advances_before_more (subst (λ (u : CuttingProgress). IsThere u held) (sym (ap (λ (d : Decoding). d.units) c.self.view_is)) there) more)),
       (sym (ap (λ (d : Decoding). d.stream_end) c.self.view_is) ∙ c.in-Going.is),
       λ (e : c.self.inside.stream_end ≡ stream_end.Stopped). let both : stream_end.Going ≡ stream_end.Stopped = sym c.in-Going.is ∙ e in cc,
       ap (λ (d : Decoding). d.given) c.self.view_is,
@@ -182,7 +182,7 @@ returns-in-Ok-Drains-clause-before_more g c =
       leads_going a c.self.inside.units c.advance_by_unit.new.units c.self.inside.state c.next_due.new.state c.advance_by_unit.new.state c.self.inside.draining true c.self.inside.given c.self.inside.given c.self.inside.stream_end
           (append_known held more) (append_known held more) (append_known (g.S.Source.held c.advance_by_unit.new.source) more) [] (leads_same a here (append_known held more) c.self.view_is) c.in-None.ensures.settles c.in-Going.is
           (subst (λ (s : Step). Advances (Ok s) c.self.inside.units c.advance_by_unit.new.units c.next_due.new.state c.advance_by_unit.new.state (append_known held more) (append_known (g.S.Source.held c.advance_by_unit.new.source) more)) c.in-Ok-Drains.field-0-is
-          (c.in-Ok-Drains.ensures.advances_before_more (subst (λ (u : Progress). IsThere u held) (sym (ap (λ (d : Decoding). d.units) c.self.view_is)) there) more)),
+          (c.in-Ok-Drains.ensures.advances_before_more (subst (λ (u : CuttingProgress). IsThere u held) (sym (ap (λ (d : Decoding). d.units) c.self.view_is)) there) more)),
       (sym (ap (λ (d : Decoding). d.stream_end) c.self.view_is) ∙ c.in-Going.is),
       λ (e : c.self.inside.stream_end ≡ stream_end.Stopped). let both : stream_end.Going ≡ stream_end.Stopped = sym c.in-Going.is ∙ e in cc,
       ap (λ (d : Decoding). d.given) c.self.view_is,
@@ -212,7 +212,7 @@ returns-in-Err-End-clause-before_more g c =
       leads_unit a c.self.inside.units c.advance_by_unit.new.units c.self.inside.state c.next_due.new.state c.advance_by_unit.new.state c.self.inside.draining true c.self.inside.given c.self.inside.given c.self.inside.stream_end stream_end.Ended
           (append_known held more) (append_known held more) (append_known (g.S.Source.held c.advance_by_unit.new.source) more) [] (leads_same a here (append_known held more) c.self.view_is) c.in-None.ensures.settles c.in-Going.is
           (subst (λ (s : Halt). Advances (Err s) c.self.inside.units c.advance_by_unit.new.units c.next_due.new.state c.advance_by_unit.new.state (append_known held more) (append_known (g.S.Source.held c.advance_by_unit.new.source) more)) c.in-Err-End.field-0-is
-          (c.in-Err-End.ensures.advances_before_more (subst (λ (u : Progress). IsThere u held) (sym (ap (λ (d : Decoding). d.units) c.self.view_is)) there) more)),
+          (c.in-Err-End.ensures.advances_before_more (subst (λ (u : CuttingProgress). IsThere u held) (sym (ap (λ (d : Decoding). d.units) c.self.view_is)) there) more)),
       (sym (ap (λ (d : Decoding). d.stream_end) c.self.view_is) ∙ c.in-Going.is),
       λ (e : stream_end.Ended ≡ stream_end.Stopped). cc,
       ap (λ (d : Decoding). d.given) c.self.view_is,
@@ -242,7 +242,7 @@ returns-in-Err-Fault-clause-before_more g c =
       leads_unit a c.self.inside.units c.advance_by_unit.new.units c.self.inside.state c.next_due.new.state c.advance_by_unit.new.state c.self.inside.draining true c.self.inside.given c.self.inside.given c.self.inside.stream_end (stream_end.Faulted c.in-Err-Fault.fault)
           (append_known held more) (append_known held more) (append_known (g.S.Source.held c.advance_by_unit.new.source) more) [] (leads_same a here (append_known held more) c.self.view_is) c.in-None.ensures.settles c.in-Going.is
           (subst (λ (s : Halt). Advances (Err s) c.self.inside.units c.advance_by_unit.new.units c.next_due.new.state c.advance_by_unit.new.state (append_known held more) (append_known (g.S.Source.held c.advance_by_unit.new.source) more)) c.in-Err-Fault.field-0-is
-          (c.in-Err-Fault.ensures.advances_before_more (subst (λ (u : Progress). IsThere u held) (sym (ap (λ (d : Decoding). d.units) c.self.view_is)) there) more)),
+          (c.in-Err-Fault.ensures.advances_before_more (subst (λ (u : CuttingProgress). IsThere u held) (sym (ap (λ (d : Decoding). d.units) c.self.view_is)) there) more)),
       (sym (ap (λ (d : Decoding). d.stream_end) c.self.view_is) ∙ c.in-Going.is),
       λ (e : (stream_end.Faulted c.in-Err-Fault.fault) ≡ stream_end.Stopped). cc,
       ap (λ (d : Decoding). d.given) c.self.view_is,

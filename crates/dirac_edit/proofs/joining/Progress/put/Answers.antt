@@ -6,7 +6,7 @@ use Rattle.dirac_io.specs.Writing.{AppendsFront}
 use Rattle.dirac_encode_laws.specs.Stream.{end_unit}
 use Rattle.dirac_edit_laws.specs.Texts.{PictureText}
 use Rattle.dirac_edit.specs.declared.keys.Keys.{Keys}
-use Rattle.dirac_edit.specs.Merged.{Added, Progress, keys_among, may_follow, onto, own, own_bytes}
+use Rattle.dirac_edit.specs.Merged.{Added, WritingProgress, keys_among, may_follow, onto, own_sequence, own_bytes}
 use Rattle.dirac_edit.proofs.Adding.{apart_added, behind_is, bytes_are, latest_is, may_be, onto_added, onto_bytes, onto_latest, onto_length, own_added, own_latest}
 use Rattle.dirac_edit.proofs.joining.Progress.put.Goals as goal
 
@@ -18,9 +18,9 @@ returns-in_default g c =
     let k = keys_among s.pictures in
     let out = g.K.Sink.taken c.args.out.now in
     let out' = g.K.Sink.taken c.put_own.new.out in
-    let a : Added = own [] p.previous s k in
-    let none : p.latest ≡ None = latest_is p None c.self.inside.latest (ap (λ (x : Progress). x.latest) c.self.view_is) (sym c.in_default.is ∙ c.take.ensures.value) in
-    let same : c.self.inside.previous ≡ p.previous = ap (λ (x : Progress). x.previous) c.self.view_is in
+    let a : Added = own_sequence [] p.previous s k in
+    let none : p.latest ≡ None = latest_is p None c.self.inside.latest (ap (λ (x : WritingProgress). x.latest) c.self.view_is) (sym c.in_default.is ∙ c.take.ensures.value) in
+    let same : c.self.inside.previous ≡ p.previous = ap (λ (x : WritingProgress). x.previous) c.self.view_is in
     let keys : c.keys_of-keys.result ≡ k = c.keys_of-keys.ensures.value ∙ ap (λ (ps : List PictureText). keys_among ps) c.pictures.ensures in
     let text = bytes_are p s a (own_bytes c.self.inside.previous s) (own_added p s none) (ap (λ n. own_bytes n s) same) in
     record {
@@ -46,8 +46,8 @@ returns-in-Some-merge g c =
     let out = g.K.Sink.taken c.args.out.now in
     let out' = g.K.Sink.taken c.put_units.new.out in
     let a : Added = onto l p.previous s k in
-    let some : p.latest ≡ Some l = latest_is p (Some l) c.self.inside.latest (ap (λ (x : Progress). x.latest) c.self.view_is) (sym c.in-Some.is ∙ c.take.ensures.value) in
-    let same : c.self.inside.previous ≡ p.previous = ap (λ (x : Progress). x.previous) c.self.view_is in
+    let some : p.latest ≡ Some l = latest_is p (Some l) c.self.inside.latest (ap (λ (x : WritingProgress). x.latest) c.self.view_is) (sym c.in-Some.is ∙ c.take.ensures.value) in
+    let same : c.self.inside.previous ≡ p.previous = ap (λ (x : WritingProgress). x.previous) c.self.view_is in
     let keys : c.keys_of-keys.result ≡ k = c.keys_of-keys.ensures.value ∙ ap (λ (ps : List PictureText). keys_among ps) c.pictures.ensures in
     let may : may_follow l s.header k ≡ true = may_be l c.header-2.result.now s.header c.keys_of-keys.result k true c.header-2.ensures.value keys c.in-Some-merge.ensures.0 in
     let text = bytes_are p s a _ (onto_added p l s some may)
@@ -74,9 +74,9 @@ returns-in-None g c =
     let k = keys_among s.pictures in
     let out = g.K.Sink.taken c.args.out.now in
     let out' = g.K.Sink.taken c.put_apart.new.out in
-    let a : Added = own (end_unit p.previous) 13 s k in
-    let some : p.latest ≡ Some l = latest_is p (Some l) c.self.inside.latest (ap (λ (x : Progress). x.latest) c.self.view_is) (sym c.in-Some.is ∙ c.take.ensures.value) in
-    let same : c.self.inside.previous ≡ p.previous = ap (λ (x : Progress). x.previous) c.self.view_is in
+    let a : Added = own_sequence (end_unit p.previous) 13 s k in
+    let some : p.latest ≡ Some l = latest_is p (Some l) c.self.inside.latest (ap (λ (x : WritingProgress). x.latest) c.self.view_is) (sym c.in-Some.is ∙ c.take.ensures.value) in
+    let same : c.self.inside.previous ≡ p.previous = ap (λ (x : WritingProgress). x.previous) c.self.view_is in
     let keys : c.keys_of-keys.result ≡ k = c.keys_of-keys.ensures.value ∙ ap (λ (ps : List PictureText). keys_among ps) c.pictures.ensures in
     let may : may_follow l s.header k ≡ false = may_be l c.header-2.result.now s.header c.keys_of-keys.result k false c.header-2.ensures.value keys c.in-None.ensures in
     let text = bytes_are p s a (end_unit c.self.inside.previous ++ own_bytes 13 s) (apart_added p l s some may) (ap (λ n. end_unit n ++ own_bytes 13 s) same) in

@@ -17,8 +17,8 @@ loop-turn-init g c =
           down = c.requires.down.1;
           evens_len = c.in_ok-evens.ensures.len;
           odds_len = c.in_ok-odds.ensures.len;
-          evens_bound = all_weaker 4095 (most_of k).0 c.in_ok-evens.evens.items least.0 c.in_ok-evens.ensures.small;
-          odds_bound = all_weaker 4095 (most_of k).1 c.in_ok-odds.odds.items least.1 c.in_ok-odds.ensures.small;
+          evens_bound = all_weaker 4095 (most_of k).0 c.in_ok-evens.evens.items least.0 c.in_ok-evens.ensures.at_most_4095;
+          odds_bound = all_weaker 4095 (most_of k).1 c.in_ok-odds.odds.items least.1 c.in_ok-odds.ensures.at_most_4095;
         };
         evens_whole = c.requires.evens;
         odds_whole = c.requires.odds;

@@ -1,5 +1,5 @@
 use Rattle.std.proofs.Common.{◌∙◌, ap, arith, refl, subst, [], None}
-use Rattle.dirac_push.specs.Pushing.{Passes, Pushed, TakesUnits, TurnGives}
+use Rattle.dirac_push.specs.Pushing.{PushPasses, Pushed, TakesUnits, TurnGives}
 use Rattle.dirac_push.proofs.Passing.{gives_behind, passes_on, passes_same, repeats_behind, still_going}
 use Rattle.dirac_push.proofs.Taking.{takes_on, takes_same}
 use Rattle.dirac_push.proofs.push.PushDecoder.next.Goals as goal
@@ -9,7 +9,7 @@ units-init c =
     let old : Pushed = record { decoder = c.self.inside.decoder; there = c.self.inside.queue.bytes; room = c.self.inside.queue.room; is_finished = c.self.inside.is_finished; shown = c.self.inside.shown; format = c.self.inside.format } in
     let new : Pushed = record old { shown = None } in
     record {
-      passes = subst (λ (x : Pushed). Passes x new [] []) c.self.view_is (passes_same old new refl refl (λ e. e));
+      passes = subst (λ (x : Pushed). PushPasses x new [] []) c.self.view_is (passes_same old new refl refl (λ e. e));
       takes = subst (λ (x : Pushed). TakesUnits x new) c.self.view_is (takes_same old new refl refl refl refl refl);
       given = ap (λ (x : Pushed). x.decoder.given) c.self.view_is;
       shown = refl;

@@ -27,7 +27,7 @@ use denote.Triple.Walked.{says, Stays, stay_dropped, walk_of, ends_at, Goes-drop
 use Rattle.std.proofs.BoxSteps.Form.{handle}
 use Rattle.core.proofs.alloc.Calls.{handle_tells}
 use Rattle.std_heap.specs.contracts.Global as Heap
-use Rattle.dirac_push.specs.Pushing.{begun}
+use Rattle.dirac_push.specs.Pushing.{push_begun}
 use Rattle.jevmutzal.proofs.Held.{E, three, three_typed, handle_in}
 use Rattle.jevmutzal.specs.contracts.handle.Handle.closed as F
 use Rattle.jevmutzal.specs.contracts.handle.Handle.closed.Key.{name as #self}
@@ -51,12 +51,12 @@ module _ {M : Type 1} {𝓤 : Ura M} (𝓛 : Logic 𝓤) (at_mem : Memory → SP
       let To = type_at (F.signature).result tt in
       qed 𝓛 ((‵ ftrue ⊛ ‵ (fsep (Heap.the_row.own_val a z.0.4.0) ftrue)) ∷ raw (emp 𝓤) ∷ []) ∵ split ! $ drop ! $ fsplit ! $
       handle_tells E.al ! a z.0.4.0 (λ hv ws fa. keep ! (0 ∷ []) $
-      let made : To.Denot = record { at = null_ptr; alloc = a; is_open = false; decoder = begun } in
+      let made : To.Denot = record { at = null_ptr; alloc = a; is_open = false; decoder = push_begun } in
       let Γ : List (Item 𝓤) = ‵ (handle E a hv) ∷ [] in
       by ! (subst (λ (us : List Val). ent 𝓤 (types.Kit.⋆ 𝓛 Γ) (WpFn 𝓤 H 𝓣.C 𝓣.Λ code.function (us ++ []) Post)) (sym ws)
       (qed 𝓛 Γ ∵ enter ! 𝓣.C 𝓣.Λ code.function (hv ∷ []) _ $ alloc_all ! (λ ls. pass_all ! refl (fa, tt) $
       sets ! (agg ! (and_then ! (lit ! tt) (and_then ! (get ! refl) (and_then ! (false_lit !) (no_more !))))) refl (three_typed null_ptr hv false fa) $ returns ! (look_at ! 0 refl) $ free_all ! refl $
-      nothing ! $ handle_in ! null_ptr hv a false begun $
+      nothing ! $ handle_in ! null_ptr hv a false push_begun $
       suffices ! _ (ends_at 𝓛 F.ended stayed (F.clauses 𝓛 at_mem run) z (three (ptr_val null_ptr) hv false) made (tt, tt) (tt, tt)) $ says ! refl $
       nothing ! $ nothing ! $ fjoin ! $ join ! $ nothing ! $ join ! $ done !))))
 

@@ -1,0 +1,38 @@
+use Rattle.std.proofs.Common.{arith}
+use Rattle.dirac_blocks.proofs.unit_reader.read_unit_block.Goals as goal
+
+pub returns-in-Modes-clause-value : goal.returns-in-Modes-clause-value
+returns-in-Modes-clause-value c = rw c.in-Modes.is c.read_mode.ensures.value
+
+pub returns-in-Modes-clause-block : goal.returns-in-Modes-clause-block
+returns-in-Modes-clause-block c = c.read_mode.ensures.block
+
+pub returns-in-Modes-clause-few_doublings : goal.returns-in-Modes-clause-few_doublings
+returns-in-Modes-clause-few_doublings c = omega (arith, c.read_mode.ensures.few_doublings)
+
+pub returns-in-Across-clause-value : goal.returns-in-Across-clause-value
+returns-in-Across-clause-value c = rw c.in-Across.is c.read_across.ensures.value
+
+pub returns-in-Across-clause-block : goal.returns-in-Across-clause-block
+returns-in-Across-clause-block c = c.read_across.ensures.block
+
+pub returns-in-Across-clause-few_doublings : goal.returns-in-Across-clause-few_doublings
+returns-in-Across-clause-few_doublings c = c.read_across.ensures.few_doublings
+
+pub returns-in-Down-clause-value : goal.returns-in-Down-clause-value
+returns-in-Down-clause-value c = rw c.in-Down.is c.read_down.ensures.value
+
+pub returns-in-Down-clause-block : goal.returns-in-Down-clause-block
+returns-in-Down-clause-block c = c.read_down.ensures.block
+
+pub returns-in-Down-clause-few_doublings : goal.returns-in-Down-clause-few_doublings
+returns-in-Down-clause-few_doublings c = c.read_down.ensures.few_doublings
+
+pub returns-in-Dc-clause-value : goal.returns-in-Dc-clause-value
+returns-in-Dc-clause-value c = rw c.in-Dc.is c.read_dc.ensures.value
+
+pub returns-in-Dc-clause-block : goal.returns-in-Dc-clause-block
+returns-in-Dc-clause-block c = c.read_dc.ensures.block
+
+pub returns-in-Dc-clause-few_doublings : goal.returns-in-Dc-clause-few_doublings
+returns-in-Dc-clause-few_doublings c = c.read_dc.ensures.few_doublings

@@ -1,0 +1,27 @@
+use Rattle.std.proofs.Common.{rules, ◌≡◌, ◌-ℤ◌, ℤ, List, [], ◌∷◌, Some, None, ap, ap₂, sym, ◌∙◌, to_z, of_z, w32}
+use Rattle.std.proofs.lemmas.Result.{on_ok_weaker}
+use Rattle.dirac_arith.specs.Interval.{Decision, narrowed_by}
+use Rattle.dirac_arith.specs.Spelling.{signed_spelling}
+use Rattle.dirac_vectors.specs.Predictions.{dc_of}
+use Rattle.dirac_blocks.specs.Decisions.{predicted}
+use Rattle.dirac_blocks.specs.Parts.{dc_at}
+use Rattle.dirac_blocks.proofs.UnitValues.{none_told, some_told}
+use Rattle.dirac_blocks.proofs.unit_writer.write_dc.Goals as goal
+
+pub returns-in-None : goal.returns-in-None
+returns-in-None c =
+    let t = c.args.table.now in
+    let p = predicted dc_of (dc_at c.args.component t) c.args.i c.args.j in
+    let none : dc_at c.args.component t c.args.i c.args.j ≡ None = sym c.dc.ensures.value ∙ c.in-None.is in
+    none_told (34 ∷ 35 ∷ []) 36 37 p _ c.args.encoder.now none
+
+pub returns-in-Some : goal.returns-in-Some
+returns-in-Some c =
+    let t = c.args.table.now in
+    let v = c.in-Some.value in
+    let p = predicted dc_of (dc_at c.args.component t) c.args.i c.args.j in
+    let given : to_z w32 (of_z w32 c.predicted_dc-prediction.result) ≡ p = search rules in
+    let value : to_z w32 (of_z w32 v) ≡ v = search rules in
+    let some : dc_at c.args.component t c.args.i c.args.j ≡ Some v = sym c.dc.ensures.value ∙ c.in-Some.is in
+    let written = ap₂ (λ (w q : ℤ). signed_spelling (34 ∷ 35 ∷ []) 36 37 (w -ℤ q)) value given ∙ some_told (34 ∷ 35 ∷ []) 36 37 p v _ some in
+    on_ok_weaker c.write_less.result (λ e. e ∙ ap (λ (ds : List Decision). narrowed_by c.args.encoder.now ds) written) c.write_less.ensures

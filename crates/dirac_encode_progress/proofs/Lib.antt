@@ -1,0 +1,6 @@
+pub mod Waiting
+pub mod Stepping
+pub mod Going
+pub mod Finding
+pub mod Reading
+pub mod OfRead
