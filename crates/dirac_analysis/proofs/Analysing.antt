@@ -8,8 +8,8 @@ use Rattle.dirac_common.specs.declared.formats.Kind.TheVariants.{Intra, Inter}
 use Rattle.dirac_common.specs.Table.{Table}
 use Rattle.dirac_bands.specs.Geometry.{level_of}
 use Rattle.dirac_bands.specs.Interleaving.{band_of}
-use Rattle.dirac_header.specs.Counts.{counts_among, counts_at}
-use Rattle.dirac_header.specs.declared.transform.Transform.{Transform}
+use Rattle.dirac_parameters.specs.Counts.{counts_among, counts_at}
+use Rattle.dirac_parameters.specs.declared.transform.Transform.{Transform}
 use Rattle.dirac_coeffs.specs.declared.layout.CodedBand.{CodedBand}
 use Rattle.dirac_lift.specs.Level.{analysed}
 use Rattle.dirac_analysis.specs.Analysis.{Analysis, analysis_of, as_coded, coded_bands, coded_from, coded_level, coded_lowest, higher_bands, level_bands, lowest_after, lowest_index, padded, plane_analysis, plane_bands, quantised}

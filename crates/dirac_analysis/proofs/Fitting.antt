@@ -15,8 +15,8 @@ use Rattle.dirac_bands.specs.DcSum.{IsDcSum}
 use Rattle.dirac_bands.specs.Interleaving.{band_of}
 use Rattle.dirac_bands.specs.Geometry.{level_of, padded_size}
 use Rattle.dirac_bands.proofs.Predictions.{DifferencesFrom, differences_bound}
-use Rattle.dirac_header.specs.Counts.{counts_at}
-use Rattle.dirac_header.specs.declared.transform.Transform.{Transform}
+use Rattle.dirac_parameters.specs.Counts.{counts_at}
+use Rattle.dirac_parameters.specs.declared.transform.Transform.{Transform}
 use Rattle.dirac_coeffs.specs.declared.layout.CodedBand.{CodedBand}
 use Rattle.dirac_lift.specs.Level.{analysed}
 use Rattle.dirac_analysis.specs.Analysis.{coded_bands, coded_lowest, differences, padded}

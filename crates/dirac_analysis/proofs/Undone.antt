@@ -16,8 +16,8 @@ use Rattle.dirac_bands.specs.Interleaving.{band_of}
 use Rattle.dirac_bands.specs.Geometry.{padded_size}
 use Rattle.dirac_bands.proofs.Predictions.{is_sums, sums_determined}
 use Rattle.dirac_bands.proofs.Undoing.{table_is}
-use Rattle.dirac_header.specs.Counts.{counts_at}
-use Rattle.dirac_header.specs.declared.transform.Transform.{Transform}
+use Rattle.dirac_parameters.specs.Counts.{counts_at}
+use Rattle.dirac_parameters.specs.declared.transform.Transform.{Transform}
 use Rattle.dirac_coeffs.specs.declared.layout.CodedBand.{CodedBand}
 use Rattle.dirac_coeffs.specs.Indices.{index_at}
 use Rattle.dirac_coeffs.specs.Written.{is_zero_band}

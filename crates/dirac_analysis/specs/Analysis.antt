@@ -6,8 +6,8 @@ use Rattle.dirac_common.specs.Table.{Table, table_at, table_of}
 use Rattle.dirac_bands.specs.DcSum.{dc_prediction}
 use Rattle.dirac_bands.specs.Geometry.{level_of, padded_size}
 use Rattle.dirac_bands.specs.Interleaving.{band_of}
-use Rattle.dirac_header.specs.Counts.{counts_at}
-use Rattle.dirac_header.specs.declared.transform.Transform.{Transform}
+use Rattle.dirac_parameters.specs.Counts.{counts_at}
+use Rattle.dirac_parameters.specs.declared.transform.Transform.{Transform}
 use Rattle.dirac_coeffs.specs.declared.layout.CodedBand.{CodedBand}
 use Rattle.dirac_lift.specs.Level.{analysed}
 pub use Rattle.dirac_analysis.specs.Coded.{coded}

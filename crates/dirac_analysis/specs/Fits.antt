@@ -7,7 +7,7 @@ use Rattle.dirac_common.specs.declared.limits.TheConstants.{LARGEST_TABLE_SIDE}
 use Rattle.dirac_common.specs.Table.{Table}
 use Rattle.dirac_bands.specs.Geometry.{level_of}
 pub use Rattle.dirac_bands.specs.Geometry.{lowest_size}
-use Rattle.dirac_header.specs.Counts.{counts_at}
+use Rattle.dirac_parameters.specs.Counts.{counts_at}
 use Rattle.dirac_coeffs.specs.declared.layout.BandLayout.{BandLayout}
 use Rattle.dirac_coeffs.specs.declared.layout.CodedBand.{CodedBand}
 use Rattle.dirac_coeffs.specs.Written.{AreIndicesOf, is_zero_band}

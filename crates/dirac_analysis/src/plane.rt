@@ -11,8 +11,8 @@ use crate::levels::analyse_levels;
 use crate::padding::pad;
 use crate::quantising::quantise_plane;
 use dirac_common::{Kind, LARGEST_SIDE, NoMemory, Plane};
-use dirac_header::Transform;
 use dirac_lift::Held;
+use dirac_parameters::Transform;
 use dirac_picture::PlaneBands;
 use std::alloc::Global;
 

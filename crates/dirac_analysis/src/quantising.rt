@@ -8,7 +8,7 @@ use crate::analysed::AnalysedPlane;
 use crate::band::code_band;
 use dirac_coeffs::CodedBand;
 use dirac_common::{Kind, NoMemory};
-use dirac_header::Transform;
+use dirac_parameters::Transform;
 use dirac_picture::PlaneBands;
 use std::alloc::Global;
 

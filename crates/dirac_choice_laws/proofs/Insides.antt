@@ -10,7 +10,7 @@ use Rattle.dirac_inside.specs.Ranges.{AreBlocks}
 use Rattle.dirac_inside.specs.declared.picture_blocks.PictureBlocks.{PictureBlocks}
 use Rattle.dirac_sequence_header.specs.Sizes.{picture_height}
 use Rattle.dirac_sequence.specs.Written.{sequence_of}
-use Rattle.dirac_header.specs.Prediction.{grid_of}
+use Rattle.dirac_parameters.specs.Grids.{grid_of}
 use Rattle.dirac_inside_laws.specs.Kept.{VectorsKeepInside}
 use Rattle.dirac_block_table.specs.Tables.{BlockTable}
 use Rattle.dirac_picture.specs.Grammar.{is_intra}

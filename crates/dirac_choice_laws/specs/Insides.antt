@@ -7,7 +7,7 @@ use Rattle.dirac_types.specs.Settings.{IsAccepted}
 use Rattle.dirac_inside.specs.declared.picture_blocks.PictureBlocks.{PictureBlocks}
 use Rattle.dirac_sequence_header.specs.Sizes.{picture_height}
 use Rattle.dirac_sequence.specs.Written.{sequence_of}
-use Rattle.dirac_header.specs.Prediction.{grid_of}
+use Rattle.dirac_parameters.specs.Grids.{grid_of}
 use Rattle.dirac_inside_laws.specs.Kept.{VectorsKeepInside}
 use Rattle.dirac_picture.specs.Grammar.{is_intra}
 use Rattle.dirac_plan.specs.declared.planned.Planned.{Planned}

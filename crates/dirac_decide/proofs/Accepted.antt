@@ -10,7 +10,7 @@ use Rattle.dirac_common.specs.declared.formats.Chroma.TheVariants.{C444, C422, C
 use Rattle.std.proofs.lemmas.Bool.{cases_Bool}
 use Rattle.std.proofs.lemmas.Nat.{le-div}
 use Rattle.dirac_common.specs.Ratios.{ratio_across, ratio_down}
-use Rattle.dirac_header.specs.Prediction.{grid_of}
+use Rattle.dirac_parameters.specs.Grids.{grid_of}
 use Rattle.dirac_picture.specs.Grammar.{superblocks_over}
 use Rattle.dirac_decide.specs.Deciding.{IsFieldSize, IsSearched, IsView, View}
 

@@ -9,7 +9,7 @@ use Rattle.dirac_common.specs.declared.picture.Picture.{Picture}
 use Rattle.dirac_common.specs.declared.formats.BlockGrid.{BlockGrid}
 use Rattle.dirac_common.specs.Ratios.{ratio_across, ratio_down}
 use Rattle.dirac_sequence.specs.Written.{sequence_of}
-use Rattle.dirac_header.specs.Prediction.{grid_of}
+use Rattle.dirac_parameters.specs.Grids.{grid_of}
 use Rattle.dirac_vectors.specs.Predictions.{IsShortVector}
 use Rattle.dirac_picture.specs.Grammar.{superblocks_over}
 use Rattle.dirac_upconvert.specs.HalfSamples.{IsSample}

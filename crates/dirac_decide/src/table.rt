@@ -15,7 +15,7 @@ use crate::inputs::{Inputs, RefView};
 use crate::superblock::{BestSplit, decide_row};
 use dirac_block_table::BlockData;
 use dirac_common::{MOST_SUPERBLOCKS, NoMemory, OpenGate, Picture, ratio_across, ratio_down};
-use dirac_header::block_grid;
+use dirac_parameters::block_grid;
 use dirac_rows::map_rows;
 use dirac_sequence::sequence_of;
 use dirac_types::Settings;

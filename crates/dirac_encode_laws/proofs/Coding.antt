@@ -18,7 +18,7 @@ use Rattle.dirac_synthesis.proofs.Sizes.{lowest_length, level_length}
 use Rattle.dirac_analysis.specs.Fits.{AreLevelBands, AreSamples, IsLaidOut, lowest_size}
 use Rattle.dirac_analysis.proofs.FinerBands.{level_band_is_coded}
 use Rattle.dirac_sequence.proofs.Accepted.{writable}
-use Rattle.dirac_header.specs.declared.transform.Transform.{Transform}
+use Rattle.dirac_parameters.specs.declared.transform.Transform.{Transform}
 use Rattle.dirac_sequence.specs.Written.{sequence_of}
 use Rattle.dirac_picture.specs.declared.coded.CodedResidual.{CodedResidual}
 use Rattle.dirac_picture.specs.Grammar.{chroma_height, chroma_width}

@@ -10,7 +10,7 @@ use Rattle.dirac_types.specs.Sizes.{picture_height}
 use Rattle.dirac_common.specs.Table.{Table}
 use Rattle.dirac_sequence.specs.Written.{sequence_of}
 use Rattle.dirac_header.specs.declared.header.PictureHeader.{PictureHeader}
-use Rattle.dirac_header.specs.declared.transform.Transform.{Transform}
+use Rattle.dirac_parameters.specs.declared.transform.Transform.{Transform}
 use Rattle.dirac_header.specs.Transform.{band_length}
 use Rattle.dirac_block_table.specs.Tables.{BlockTable}
 use Rattle.dirac_coeffs.specs.declared.layout.CodedBand.{CodedBand}

@@ -4,7 +4,7 @@ use Rattle.std.proofs.lemmas.Int.{ints}
 use Rattle.std.specs.Prelude.{unsigned_abs}
 use Rattle.dirac_common.specs.declared.formats.Kind.{Kind}
 use Rattle.dirac_common.specs.Table.{Table}
-use Rattle.dirac_header.specs.declared.transform.Transform.{Transform}
+use Rattle.dirac_parameters.specs.declared.transform.Transform.{Transform}
 use Rattle.dirac_analysis.specs.Analysis.{Analysis}
 use Rattle.dirac_analysis.specs.Fits.{AreDifferences}
 use Rattle.dirac_upconvert.specs.HalfSamples.{IsSample}

@@ -4,7 +4,7 @@ use Rattle.dirac_common.specs.declared.formats.Component.{Component}
 use Rattle.dirac_common.specs.declared.formats.Component.TheVariants as component
 use Rattle.dirac_common.specs.declared.formats.Kind.{Kind}
 use Rattle.dirac_common.specs.Table.{Table}
-use Rattle.dirac_header.specs.declared.transform.Transform.{Transform}
+use Rattle.dirac_parameters.specs.declared.transform.Transform.{Transform}
 use Rattle.dirac_analysis.specs.Analysis.{Analysis, plane_analysis}
 use Rattle.dirac_analysis.specs.Fits.{AreQuantisable}
 use Rattle.dirac_encode_planes.specs.declared.residual.AnalysedPlanes.{AnalysedPlanes}

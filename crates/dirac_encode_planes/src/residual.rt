@@ -16,7 +16,7 @@ use crate::difference::difference;
 use crate::predictions::Predictions;
 use dirac_analysis::{AnalysedPlane, analyse, quantise_plane};
 use dirac_common::{Component, Kind, LARGEST_SIDE, NoMemory, Picture, Plane};
-use dirac_header::Transform;
+use dirac_parameters::Transform;
 use dirac_picture::PlaneBands;
 use std::alloc::Global;
 use std::marker::Sync;

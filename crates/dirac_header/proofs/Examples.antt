@@ -6,7 +6,7 @@ use Rattle.dirac_common.specs.declared.faults.Cause.TheVariants.{CodeblockMode}
 use Rattle.dirac_bits.specs.Cursor.{start, bit_next, bits_left}
 use Rattle.dirac_bits.specs.Fields.{flag_at, uint_at, number_on}
 use Rattle.dirac_bits.specs.Syntax.{read}
-use Rattle.dirac_header.specs.declared.transform.Transform.{Transform}
+use Rattle.dirac_parameters.specs.declared.transform.Transform.{Transform}
 use Rattle.dirac_header.specs.Transform.{level_counts, counts_behind, partition, codeblocks, transform}
 use Rattle.dirac_header.specs.Written.{transform_bits}
 

@@ -7,7 +7,7 @@ use Rattle.dirac_common.specs.Numbers.{uint}
 use Rattle.dirac_bits.specs.Spelling.{Spells}
 use Rattle.dirac_bits.specs.Syntax.{Syntax, done, ◌>>=◌, between}
 use Rattle.dirac_bits.specs.Writing.{gap}
-use Rattle.dirac_header.specs.declared.prediction.Prediction.{Prediction}
+use Rattle.dirac_parameters.specs.declared.prediction.Prediction.{Prediction}
 use Rattle.dirac_header.specs.declared.prediction.Weights.{Weights}
 use Rattle.dirac_header.specs.Codes.{references_of}
 use Rattle.dirac_header.specs.Prediction.{grid_of, block_grid, vector_precision, modes, weights, prediction_with, prediction}

@@ -12,7 +12,7 @@ use Rattle.dirac_bits.specs.Spelling.{Spells}
 use Rattle.dirac_bits.specs.Syntax.{Syntax, done, ◌>>=◌, number_field, between}
 use Rattle.dirac_bands.specs.Geometry.{padded_size, band_length}
 use Rattle.dirac_header.specs.declared.transform.Partition.{Partition}
-use Rattle.dirac_header.specs.declared.transform.Transform.{Transform}
+use Rattle.dirac_parameters.specs.declared.transform.Transform.{Transform}
 use Rattle.dirac_header.specs.Transform.{level_counts, counts_behind, partition, undivided, codeblocks, transform}
 use Rattle.dirac_header.specs.Written.{counts_bits, is_above_one, is_divided, partition_flag, partition_bits, codeblock_bits, transform_bits, IsWritableTransform, FitFrom, TransformBehind}
 use Rattle.dirac_header.proofs.Sizes.{band_small}

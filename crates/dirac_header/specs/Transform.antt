@@ -5,7 +5,7 @@ use Rattle.dirac_common.specs.declared.faults.Cause.TheVariants.{Wavelet, Depth,
 use Rattle.dirac_bits.specs.Syntax.{Syntax, done, ◌>>=◌, flag, number_field, between}
 pub use Rattle.dirac_bands.specs.Geometry.{band_length}
 use Rattle.dirac_header.specs.declared.transform.Partition.{Partition}
-use Rattle.dirac_header.specs.declared.transform.Transform.{Transform}
+use Rattle.dirac_parameters.specs.declared.transform.Transform.{Transform}
 
 -- the counts of codeblocks of one level, across and down, at most as many as its luma bands have columns and rows
 unfoldable pub level_counts : ℕ → ℕ → ℕ → ℕ → Syntax (ℕ × ℕ)

@@ -10,9 +10,9 @@ use Rattle.dirac_bits.specs.Writing.{gap}
 use Rattle.dirac_bands.specs.Geometry.{band_length}
 pub use Rattle.dirac_bits.specs.Spelling.{SpelledBehind}
 use Rattle.dirac_header.specs.declared.header.PictureHeader.{PictureHeader}
-use Rattle.dirac_header.specs.declared.prediction.Prediction.{Prediction}
+use Rattle.dirac_parameters.specs.declared.prediction.Prediction.{Prediction}
 use Rattle.dirac_header.specs.declared.prediction.Weights.{Weights}
-use Rattle.dirac_header.specs.declared.transform.Transform.{Transform}
+use Rattle.dirac_parameters.specs.declared.transform.Transform.{Transform}
 use Rattle.dirac_header.specs.Codes.{is_reference, references_of}
 use Rattle.dirac_header.specs.Prediction.{grid_of, prediction_with, prediction}
 use Rattle.dirac_header.specs.Transform.{transform}

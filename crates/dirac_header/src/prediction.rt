@@ -3,27 +3,12 @@ ghost use Rattle.dirac_bits.specs.Cursor.{Cursor};
 ghost use Rattle.dirac_bits.specs.Syntax.{read};
 ghost use Rattle.dirac_bits.specs.Answers.{ReadsSeenBy};
 ghost use Rattle.dirac_bits.specs.Laws.{BeginsWith};
-ghost use Rattle.dirac_header.specs.declared.prediction.Prediction.{Prediction as ThePrediction};
-ghost use Rattle.dirac_common.specs.declared.formats.Chroma.{Chroma as TheChroma};
+ghost use Rattle.dirac_parameters.specs.declared.prediction.Prediction.{Prediction as ThePrediction};
 ghost use Rattle.dirac_header.specs.Prediction as grammar;
 
 use dirac_bits::BitReader;
 use dirac_common::{BlockGrid, Cause, Chroma, Refusal, ratio_across, ratio_down, references};
-
-/// How an inter picture is predicted from its references.
-#[derive(Clone, Copy, Debug, PartialEq, Eq)]
-pub struct Prediction {
-    /// Block lengths and separations, in luma samples.
-    pub grid: BlockGrid,
-    /// A motion vector counts 2^precision parts of a luma sample, from 0 to 3.
-    pub precision: u8,
-    /// The precision of the weights, from 1 to 8 bits.
-    pub weight_bits: u8,
-    /// The weight of the first reference.
-    pub weight1: i32,
-    /// The weight of the second reference; 1 where there is none.
-    pub weight2: i32,
-}
+use dirac_parameters::{Prediction, block_grid, is_divisible, is_overlap};
 
 /// The weights of the references, and their precision in bits.
 #[derive(Clone, Copy)]
@@ -121,25 +106,6 @@ fn read_block_grid(r: &mut BitReader<'_>, chroma: Chroma) -> Result<BlockGrid, R
     Ok(block_grid(index))
 }
 
-/// Block lengths and separations of index 2, 3 or 4: block parameters, Dirac specification.
-pub fn block_grid(index: u64) -> BlockGrid
-    requires { (2 ≤ index) × (index ≤ 4) }
-    ensures value { result ≡ grammar.grid_of index }
-    ensures grid { (chroma : TheChroma) → IsTrue (grammar.is_grid chroma result) }
-{
-    let (length, separation) = match index {
-        2 => (12, 8),
-        3 => (16, 12),
-        _ => (24, 16),
-    };
-    BlockGrid {
-        xblen: length,
-        yblen: length,
-        xbsep: separation,
-        ybsep: separation,
-    }
-}
-
 #[tactic(auto, unfolding(crate::specs::Prediction::own_grid), using(dirac_bits::specs::Then::read_then))]
 fn read_own_grid(r: &mut BitReader<'_>, chroma: Chroma) -> Result<BlockGrid, Refusal>
     ensures value { ReadsSeenBy (λ g. g) result r.new (read (grammar.own_grid chroma) r.old) }
@@ -166,25 +132,6 @@ fn read_own_grid(r: &mut BitReader<'_>, chroma: Chroma) -> Result<BlockGrid, Ref
         xbsep: xbsep as u32,
         ybsep: ybsep as u32,
     })
-}
-
-/// Whether blocks overlap their neighbours alone, and aren't longer than 64.
-fn is_overlap(length: u64, separation: u64) -> bool
-    ensures value { result ≡ grammar.is_overlap length separation }
-    ensures at_most_64_each { IsTrue result → (length ≤ 64) × (separation ≤ 64) }
-{
-    1 <= separation && separation <= length && length <= 64 && length <= 2 * separation
-}
-
-/// Whether blocks and their overlaps have whole chroma samples, the overlap as many on both sides.
-fn is_divisible(ratio: u32, length: u64, separation: u64) -> bool
-    requires { (1 ≤ ratio) × (ratio ≤ 2) }
-    ensures { result ≡ grammar.is_divisible ratio length separation }
-{
-    let ratio = u64::from(ratio);
-    length % ratio == 0
-        && separation % ratio == 0
-        && length.saturating_sub(separation) % (2 * ratio) == 0
 }
 
 #[tactic(auto, unfolding(crate::specs::Prediction::modes), using(dirac_bits::specs::Then::read_then))]

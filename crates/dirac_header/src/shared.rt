@@ -6,7 +6,4 @@ fn is_shared<T: Send + Sync>() {}
 /// Each of these types may be shared by threads and sent to them.
 fn are_shared() {
     is_shared::<crate::PictureHeader>();
-    is_shared::<crate::Counts>();
-    is_shared::<crate::Transform>();
-    is_shared::<crate::Prediction>();
 }

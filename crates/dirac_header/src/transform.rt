@@ -4,26 +4,12 @@ ghost use Rattle.dirac_bits.specs.Cursor.{Cursor};
 ghost use Rattle.dirac_bits.specs.Syntax.{read};
 ghost use Rattle.dirac_bits.specs.Answers.{ReadsSeenBy};
 ghost use Rattle.dirac_bits.specs.Laws.{BeginsWith};
-ghost use Rattle.dirac_header.specs.declared.transform.Transform.{Transform as TheTransform};
+ghost use Rattle.dirac_parameters.specs.declared.transform.Transform.{Transform as TheTransform};
 ghost use Rattle.dirac_header.specs.Transform as grammar;
 
-use crate::counts::Counts;
 use dirac_bits::BitReader;
 use dirac_common::{Cause, LARGEST_DEPTH, LARGEST_WAVELET, Refusal};
-
-/// How a picture's coefficients are laid out.
-#[derive(Drop)]
-pub struct Transform {
-    /// The number of the wavelet, from 0 to 6.
-    pub wavelet: u8,
-    /// How many levels the wavelet was applied to, from 1 to 5.
-    pub depth: u8,
-    /// The counts of codeblocks of levels 0 to `depth`.
-    pub counts: Counts,
-    /// The codeblock mode: in mode 0 all codeblocks of a subband have its quantiser index; in mode 1 each may
-    /// change it.
-    pub mode: u8,
-}
+use dirac_parameters::{Counts, Transform};
 
 /// How the subbands are divided into codeblocks, as the partition flag and what stands behind it say.
 #[derive(Drop)]

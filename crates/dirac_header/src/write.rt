@@ -6,11 +6,10 @@ ghost use Rattle.dirac_header.specs.Codes.{is_reference};
 ghost use Rattle.dirac_header.specs.Header as grammar;
 ghost use Rattle.dirac_header.specs.Written as written;
 
-use crate::counts::Counts;
 use crate::header::PictureHeader;
-use crate::transform::Transform;
 use dirac_bits::BitWriter;
 use dirac_common::{NoMemory, is_reference};
+use dirac_parameters::{Counts, Transform};
 
 /// Writes the header of a picture with this parse code: picture header, Dirac specification, section 11. Bits 0 up to
 /// the next byte stand before it. Each offset is written as a number from -2^31 to 2^31 - 1.

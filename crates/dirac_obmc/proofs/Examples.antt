@@ -3,7 +3,7 @@ use Rattle.std.proofs.Common.{◌≡◌, ℕ, ℤ, pos, negsuc, true, [], ◌∷
 use Rattle.std.specs.List.{range_with_len}
 use Rattle.dirac_common.specs.declared.formats.Chroma.TheVariants.{C444}
 use Rattle.dirac_common.specs.Table.{filled}
-use Rattle.dirac_header.specs.declared.prediction.Prediction.{Prediction}
+use Rattle.dirac_parameters.specs.declared.prediction.Prediction.{Prediction}
 use Rattle.dirac_block_table.specs.declared.block.Block.{Block}
 use Rattle.dirac_block_table.specs.Tables.{grey}
 use Rattle.dirac_upconvert.specs.HalfSamples.{half_between, half}

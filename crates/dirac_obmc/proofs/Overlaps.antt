@@ -5,7 +5,7 @@ use Rattle.std.proofs.lemmas.Bool.{and_parts}
 use Rattle.dirac_common.specs.declared.formats.Chroma.{Chroma}
 use Rattle.dirac_common.specs.declared.formats.Chroma.TheVariants.{C444, C422, C420}
 use Rattle.dirac_common.specs.Ratios.{ratio_across, ratio_down}
-use Rattle.dirac_header.specs.Prediction.{is_divisible, is_overlap}
+use Rattle.dirac_parameters.specs.Grids.{is_divisible, is_overlap}
 use Rattle.dirac_common.specs.declared.formats.Component.{Component}
 use Rattle.dirac_common.specs.declared.formats.Component.TheVariants as component
 use Rattle.dirac_block_table.specs.Tables.{IsBlockTable}

@@ -11,7 +11,7 @@ use Rattle.std.proofs.lemmas.List.FromFn.{get_or-map-range_with_len, length-map-
 use Rattle.std.proofs.lemmas.Nat.{div_below, mod_below, mul-le}
 use Rattle.dirac_common.specs.Table.{filled}
 use Rattle.dirac_common.specs.declared.formats.Vector.{Vector}
-use Rattle.dirac_header.specs.declared.prediction.Prediction.{Prediction}
+use Rattle.dirac_parameters.specs.declared.prediction.Prediction.{Prediction}
 use Rattle.dirac_block_table.specs.Tables.{block_at}
 use Rattle.dirac_block_table.specs.declared.block.Block.{Block}
 use Rattle.dirac_upconvert.specs.HalfSamples.{IsSample}

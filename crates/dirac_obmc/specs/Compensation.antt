@@ -8,8 +8,8 @@ use Rattle.dirac_common.specs.Table.{Table, table_of}
 use Rattle.dirac_common.specs.declared.formats.Chroma.{Chroma}
 use Rattle.dirac_common.specs.declared.formats.Vector.{Vector}
 use Rattle.dirac_common.specs.Ratios.{ratio_across, ratio_down}
-use Rattle.dirac_header.specs.Prediction.{is_grid}
-use Rattle.dirac_header.specs.declared.prediction.Prediction.{Prediction}
+use Rattle.dirac_parameters.specs.Grids.{is_grid}
+use Rattle.dirac_parameters.specs.declared.prediction.Prediction.{Prediction}
 use Rattle.dirac_block_table.specs.Tables.{BlockTable, block_at}
 use Rattle.dirac_block_table.specs.declared.block.Block.{Block}
 pub use Rattle.dirac_upconvert.specs.Places.{position}

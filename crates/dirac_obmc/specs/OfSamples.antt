@@ -2,7 +2,7 @@
 use Rattle.std.specs.Prelude.{◌≡◌, ℕ, pos, ◌<◌}
 use Rattle.std.specs.List.{All}
 use Rattle.std.specs.Option.{ForSome}
-use Rattle.dirac_header.specs.declared.prediction.Prediction.{Prediction}
+use Rattle.dirac_parameters.specs.declared.prediction.Prediction.{Prediction}
 use Rattle.dirac_block_table.specs.Tables.{block_at}
 use Rattle.dirac_upconvert.specs.HalfSamples.{IsSample}
 use Rattle.dirac_obmc.specs.Compensation.{Compensation, IsCompensation, blocks_across, blocks_down, component_dc}

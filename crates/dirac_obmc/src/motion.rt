@@ -1,6 +1,6 @@
 use dirac_block_table::BlockData;
 use dirac_common::{Chroma, Component};
-use dirac_header::Prediction;
+use dirac_parameters::Prediction;
 use dirac_upconvert::UpPlane;
 
 /// What one plane of an inter picture is predicted from: the picture's blocks and parameters, and this plane of

@@ -18,7 +18,7 @@ use crate::direction::{across_ratio, down_ratio};
 use crate::motion::Motion;
 use dirac_block_table::Block;
 use dirac_common::{Component, LARGEST_SIDE, LARGEST_TABLE_SIDE, Vector};
-use dirac_header::Prediction;
+use dirac_parameters::Prediction;
 use dirac_upconvert::UpPlane;
 
 /// A place in parts of a sample.

@@ -13,7 +13,7 @@ use Rattle.dirac_bits.proofs.Literals.{number_from-byte}
 use Rattle.dirac_sequence_header.specs.declared.sequence.Sequence.{Sequence}
 use Rattle.dirac_sequence_header.specs.Sizes.{picture_height}
 use Rattle.dirac_header.specs.declared.header.PictureHeader.{PictureHeader}
-use Rattle.dirac_header.specs.declared.transform.Transform.{Transform}
+use Rattle.dirac_parameters.specs.declared.transform.Transform.{Transform}
 use Rattle.dirac_header.specs.Codes.{is_reference}
 use Rattle.dirac_header.specs.Written.{centred, header_bits, offset_to, prediction_bits, reference_bits, retired_offset, retirement_bits, transform_bits}
 use Rattle.dirac_blocks.specs.Decisions.{block_decisions, least_numbers}

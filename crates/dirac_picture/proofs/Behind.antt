@@ -7,7 +7,7 @@ use Rattle.dirac_bits.specs.Cursor.{Cursor}
 use Rattle.dirac_bits.specs.Syntax.{read}
 use Rattle.dirac_bits.specs.Then.{read_then}
 use Rattle.dirac_bits.specs.Answers.{ReadsOrStops}
-use Rattle.dirac_header.specs.declared.transform.Transform.{Transform}
+use Rattle.dirac_parameters.specs.declared.transform.Transform.{Transform}
 use Rattle.dirac_coeffs.specs.declared.layout.CodedBand.{CodedBand}
 use Rattle.dirac_coeffs.specs.Grammar.{band}
 use Rattle.dirac_picture.specs.Bands.{layout_of, parent_values}

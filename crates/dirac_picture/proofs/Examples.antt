@@ -1,7 +1,7 @@
 -- Worked examples of the definitions.
 use Rattle.std.proofs.Common.{◌≡◌, [], ◌∷◌, refl}
 use Rattle.dirac_common.specs.declared.formats.Band.TheVariants.{LL, HL, LH, HH}
-use Rattle.dirac_header.specs.declared.transform.Transform.{Transform}
+use Rattle.dirac_parameters.specs.declared.transform.Transform.{Transform}
 use Rattle.dirac_picture.specs.Bands.{band_count, layout_of}
 
 -- a plane of 10 by 6 at depth 2 is padded to 12 by 8

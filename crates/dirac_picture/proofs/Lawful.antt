@@ -9,7 +9,7 @@ use Rattle.dirac_bits.specs.Syntax.{read, done, number_field, between, ◌>>=◌
 use Rattle.dirac_bands.specs.Geometry.{band_length}
 use Rattle.dirac_header.specs.declared.header.PictureHeader.{PictureHeader}
 use Rattle.dirac_header.specs.declared.transform.Partition.{Partition}
-use Rattle.dirac_header.specs.declared.transform.Transform.{Transform}
+use Rattle.dirac_parameters.specs.declared.transform.Transform.{Transform}
 use Rattle.dirac_header.specs.Codes.{references_of, is_reference}
 use Rattle.dirac_header.specs.Header.{header, reference, retirement}
 use Rattle.dirac_header.specs.Transform.{transform, codeblocks, partition, undivided, counts_behind, level_counts}

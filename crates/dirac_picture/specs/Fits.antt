@@ -8,8 +8,8 @@ use Rattle.dirac_bands.specs.Geometry.{band_length}
 use Rattle.dirac_sequence_header.specs.declared.sequence.Sequence.{Sequence}
 use Rattle.dirac_sequence_header.specs.Sizes.{chroma_height, chroma_width, picture_height}
 use Rattle.dirac_header.specs.declared.header.PictureHeader.{PictureHeader}
-use Rattle.dirac_header.specs.declared.prediction.Prediction.{Prediction}
-use Rattle.dirac_header.specs.declared.transform.Transform.{Transform}
+use Rattle.dirac_parameters.specs.declared.prediction.Prediction.{Prediction}
+use Rattle.dirac_parameters.specs.declared.transform.Transform.{Transform}
 use Rattle.dirac_header.specs.Prediction.{is_grid}
 use Rattle.dirac_header.specs.Codes.{references_of}
 use Rattle.dirac_block_table.specs.Tables.{IsBlockTable}

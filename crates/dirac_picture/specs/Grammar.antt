@@ -10,7 +10,7 @@ use Rattle.dirac_bits.specs.Syntax.{Syntax, done, refuse, ◌>>=◌, align, flag
 use Rattle.dirac_sequence_header.specs.declared.sequence.Sequence.{Sequence}
 pub use Rattle.dirac_sequence_header.specs.Sizes.{chroma_height, chroma_width, picture_height}
 use Rattle.dirac_header.specs.declared.header.PictureHeader.{PictureHeader}
-use Rattle.dirac_header.specs.declared.transform.Transform.{Transform}
+use Rattle.dirac_parameters.specs.declared.transform.Transform.{Transform}
 pub use Rattle.dirac_common.specs.Codes.{is_intra, references_of}
 use Rattle.dirac_header.specs.Header.{header}
 use Rattle.dirac_header.specs.Prediction.{prediction}

@@ -4,7 +4,7 @@ use Rattle.dirac_common.specs.Bits.{bits_of}
 use Rattle.dirac_common.specs.declared.formats.Component.{Component}
 use Rattle.dirac_common.specs.declared.formats.Component.TheVariants as component
 use Rattle.dirac_bits.specs.Writing.{up_to_byte}
-use Rattle.dirac_header.specs.declared.transform.Transform.{Transform}
+use Rattle.dirac_parameters.specs.declared.transform.Transform.{Transform}
 use Rattle.dirac_coeffs.specs.declared.layout.CodedBand.{CodedBand}
 use Rattle.dirac_coeffs.specs.Written.{with_band}
 use Rattle.dirac_sequence_header.specs.declared.sequence.Sequence.{Sequence}

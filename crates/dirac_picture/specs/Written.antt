@@ -3,7 +3,7 @@ use Rattle.std.specs.Prelude.{ℕ, Bool, true, false, if◌then◌else◌, List,
 use Rattle.dirac_sequence_header.specs.Sizes.{picture_height}
 use Rattle.dirac_common.specs.Bytes.{bytes_of}
 use Rattle.dirac_sequence_header.specs.declared.sequence.Sequence.{Sequence}
-use Rattle.dirac_header.specs.declared.transform.Transform.{Transform}
+use Rattle.dirac_parameters.specs.declared.transform.Transform.{Transform}
 use Rattle.dirac_header.specs.Written.{header_bits, prediction_bits, prediction_of, transform_bits}
 use Rattle.dirac_blocks.specs.Decisions.{block_decisions, least_numbers}
 use Rattle.dirac_blocks.specs.Grammar.{blocks}

@@ -14,7 +14,7 @@ use Rattle.dirac_arith.specs.Reading.{Reading}
 use Rattle.dirac_sequence_header.specs.declared.sequence.Sequence.{Sequence}
 use Rattle.dirac_sequence_header.specs.Sizes.{chroma_height, chroma_width, picture_height}
 use Rattle.dirac_header.specs.declared.header.PictureHeader.{PictureHeader}
-use Rattle.dirac_header.specs.declared.transform.Transform.{Transform}
+use Rattle.dirac_parameters.specs.declared.transform.Transform.{Transform}
 use Rattle.dirac_header.specs.Codes.{is_reference, references_of}
 use Rattle.dirac_header.specs.Header.{header, reference, retirement}
 use Rattle.dirac_header.specs.Prediction.{block_grid, modes, own_grid, own_weights, prediction, second_weight, vector_precision, weight, prediction_with, weights}

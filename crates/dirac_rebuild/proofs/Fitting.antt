@@ -9,7 +9,7 @@ use Rattle.dirac_common.specs.declared.formats.Component.{Component}
 use Rattle.dirac_common.specs.declared.formats.Component.TheVariants as component
 use Rattle.dirac_picture.specs.declared.coded.CodedResidual.{CodedResidual}
 use Rattle.dirac_content.specs.Content.{width_of, height_of, bands_of}
-use Rattle.dirac_header.specs.declared.transform.Transform.{Transform}
+use Rattle.dirac_parameters.specs.declared.transform.Transform.{Transform}
 use Rattle.dirac_coeffs.specs.declared.layout.CodedBand.{CodedBand}
 use Rattle.dirac_picture.specs.Bands.{layout_of}
 use Rattle.dirac_picture.specs.Fits as picture

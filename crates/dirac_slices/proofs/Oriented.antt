@@ -10,7 +10,7 @@ use Rattle.dirac_common.specs.declared.formats.Component.TheVariants as componen
 use Rattle.dirac_bits.specs.Cursor.{Cursor}
 use Rattle.dirac_bits.specs.Syntax.{Syntax, read, ◌>>=◌}
 use Rattle.dirac_bits.specs.Then.{read_then}
-use Rattle.dirac_header.specs.declared.transform.Transform.{Transform}
+use Rattle.dirac_parameters.specs.declared.transform.Transform.{Transform}
 use Rattle.dirac_coeffs.specs.declared.layout.CodedBand.{CodedBand}
 use Rattle.dirac_coeffs.specs.Sites.{Found}
 use Rattle.dirac_picture.specs.declared.chain.PlaneSize.{PlaneSize}

@@ -7,8 +7,8 @@ use Rattle.dirac_common.specs.declared.formats.Kind.{Kind}
 use Rattle.dirac_common.proofs.Bounds.{all_weaker}
 use Rattle.dirac_bands.specs.Interleaving.{joined_at}
 use Rattle.dirac_bands.specs.Geometry.{lowest_size}
-use Rattle.dirac_header.specs.Counts.{counts_among}
-use Rattle.dirac_header.specs.declared.transform.Transform.{Transform}
+use Rattle.dirac_parameters.specs.Counts.{counts_among}
+use Rattle.dirac_parameters.specs.declared.transform.Transform.{Transform}
 use Rattle.dirac_lift.specs.Level.{level}
 use Rattle.dirac_lift.proofs.LevelGrowth.{level_grows}
 use Rattle.dirac_coeffs.specs.declared.layout.CodedBand.{CodedBand}

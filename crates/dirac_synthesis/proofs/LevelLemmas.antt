@@ -7,8 +7,8 @@ use Rattle.dirac_common.specs.declared.formats.Kind.TheVariants.{Intra, Inter}
 use Rattle.dirac_common.specs.Limits.{IsWavelet}
 use Rattle.dirac_common.specs.Table.{Table}
 use Rattle.dirac_bands.specs.Geometry.{level_of, lowest_size}
-use Rattle.dirac_header.specs.Counts.{counts_among, counts_at}
-use Rattle.dirac_header.specs.declared.transform.Transform.{Transform}
+use Rattle.dirac_parameters.specs.Counts.{counts_among, counts_at}
+use Rattle.dirac_parameters.specs.declared.transform.Transform.{Transform}
 use Rattle.dirac_coeffs.specs.declared.layout.CodedBand.{CodedBand}
 use Rattle.dirac_lift.specs.Level.{level}
 use Rattle.dirac_synthesis.specs.declared.bands.LevelBands.{LevelBands}

@@ -12,8 +12,8 @@ use Rattle.dirac_common.specs.Table.{Table, filled, table_at}
 use Rattle.dirac_quant.specs.Quantiser.{restored}
 use Rattle.dirac_bands.specs.DcSum.{prediction_in, sums_up_to, value_at}
 use Rattle.dirac_bands.specs.Geometry.{level_of}
-use Rattle.dirac_header.specs.Counts.{counts_at}
-use Rattle.dirac_header.specs.declared.transform.Transform.{Transform}
+use Rattle.dirac_parameters.specs.Counts.{counts_at}
+use Rattle.dirac_parameters.specs.declared.transform.Transform.{Transform}
 use Rattle.dirac_coeffs.specs.declared.layout.CodedBand.{CodedBand}
 use Rattle.dirac_coeffs.specs.Contexts.{is_zero}
 use Rattle.dirac_coeffs.specs.Written.{is_zero_band}

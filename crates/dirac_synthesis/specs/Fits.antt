@@ -4,8 +4,8 @@ use Rattle.std.specs.List.{All}
 use Rattle.dirac_common.specs.Limits.{IsIndex}
 use Rattle.dirac_common.specs.Table.{Table}
 use Rattle.dirac_bands.specs.Geometry.{level_of, band_length}
-use Rattle.dirac_header.specs.Counts.{counts_at}
-use Rattle.dirac_header.specs.declared.transform.Transform.{Transform}
+use Rattle.dirac_parameters.specs.Counts.{counts_at}
+use Rattle.dirac_parameters.specs.declared.transform.Transform.{Transform}
 use Rattle.dirac_coeffs.specs.declared.layout.CodedBand.{CodedBand}
 use Rattle.dirac_synthesis.specs.Codeblocks.{HasIndices}
 

@@ -7,7 +7,7 @@ use Rattle.dirac_common.specs.Table.{Table}
 use Rattle.dirac_common.specs.declared.formats.Kind.{Kind}
 use Rattle.dirac_bands.specs.Geometry.{lowest_size}
 use Rattle.dirac_bands.specs.Interleaving.{joined}
-use Rattle.dirac_header.specs.declared.transform.Transform.{Transform}
+use Rattle.dirac_parameters.specs.declared.transform.Transform.{Transform}
 use Rattle.dirac_coeffs.specs.declared.layout.CodedBand.{CodedBand}
 use Rattle.dirac_lift.specs.Level.{synthesised}
 use Rattle.dirac_synthesis.specs.declared.bands.Level.{Level}

@@ -8,8 +8,8 @@ pub use Rattle.dirac_common.specs.Samples.{clip}
 use Rattle.dirac_common.specs.Table.{Table, table_at, table_of}
 use Rattle.dirac_bands.specs.DcSum.{dc_sum}
 use Rattle.dirac_bands.specs.Geometry.{level_of}
-use Rattle.dirac_header.specs.Counts.{counts_at}
-use Rattle.dirac_header.specs.declared.transform.Transform.{Transform}
+use Rattle.dirac_parameters.specs.Counts.{counts_at}
+use Rattle.dirac_parameters.specs.declared.transform.Transform.{Transform}
 use Rattle.dirac_coeffs.specs.declared.layout.CodedBand.{CodedBand}
 use Rattle.dirac_lift.specs.Level.{level}
 pub use Rattle.dirac_synthesis.specs.Codeblocks.{restored_band}

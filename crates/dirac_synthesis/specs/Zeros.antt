@@ -3,7 +3,7 @@ use Rattle.std.specs.Prelude.{◌≡◌, ℕ, pos, ◌*◌, Bool, true, List, re
 use Rattle.std.specs.List.{list_all}
 use Rattle.dirac_common.specs.declared.formats.Kind.TheVariants.{Inter}
 use Rattle.dirac_common.specs.Table.{Table}
-use Rattle.dirac_header.specs.declared.transform.Transform.{Transform}
+use Rattle.dirac_parameters.specs.declared.transform.Transform.{Transform}
 use Rattle.dirac_coeffs.specs.declared.layout.CodedBand.{CodedBand}
 use Rattle.dirac_coeffs.specs.Written.{is_zero_band}
 use Rattle.dirac_synthesis.specs.Residual.{residual}

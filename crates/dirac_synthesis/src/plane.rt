@@ -17,7 +17,7 @@ use crate::restore::restore_band;
 use dirac_bands::dc_add;
 use dirac_coeffs::CodedBand;
 use dirac_common::{Kind, LARGEST_SIDE, LARGEST_TABLE_SIDE, NoMemory, Wide};
-use dirac_header::Transform;
+use dirac_parameters::Transform;
 use std::alloc::Global;
 
 /// The LL band of level 0, whose values an intra picture codes as differences from their predictions.

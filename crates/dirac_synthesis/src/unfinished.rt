@@ -17,8 +17,8 @@ use crate::narrow::are_narrow;
 use crate::plane::{have_zeros_alone, level_of, low_after, plane_residual};
 use dirac_coeffs::CodedBand;
 use dirac_common::{Kind, LARGEST_TABLE_SIDE, NoMemory};
-use dirac_header::Transform;
 use dirac_lift::{Held, is_narrow};
+use dirac_parameters::Transform;
 use std::alloc::Global;
 use std::marker::Model;
 

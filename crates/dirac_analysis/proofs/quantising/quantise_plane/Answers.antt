@@ -1,6 +1,6 @@
 use Rattle.std.proofs.Common.{◌∷◌, ◌∙◌, List, ap, arith}
 use Rattle.dirac_common.specs.Table.{Table}
-use Rattle.dirac_header.specs.Counts.{counts_at}
+use Rattle.dirac_parameters.specs.Counts.{counts_at}
 use Rattle.dirac_analysis.specs.Analysis.{coded_from, lowest_index}
 use Rattle.dirac_analysis.specs.Coded.{coded}
 use Rattle.dirac_analysis.proofs.Analysing.{all_quantised, first_quantised, one_quantised}

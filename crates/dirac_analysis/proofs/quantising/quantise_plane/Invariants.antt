@@ -1,5 +1,5 @@
 use Rattle.std.proofs.Common.{◌≡◌, ◌∷◌, take}
-use Rattle.dirac_header.specs.Counts.{counts_at}
+use Rattle.dirac_parameters.specs.Counts.{counts_at}
 use Rattle.dirac_analysis.specs.Analysis.{coded_from, lowest_index}
 use Rattle.dirac_analysis.specs.Coded.{coded}
 use Rattle.dirac_analysis.proofs.quantising.quantise_plane.Given as goal

@@ -1,5 +1,5 @@
 use Rattle.std.proofs.Common.{subst, sym}
-use Rattle.dirac_header.specs.declared.transform.Transform.{Transform}
+use Rattle.dirac_parameters.specs.declared.transform.Transform.{Transform}
 use Rattle.dirac_encode_planes.specs.Analyses.{AreQuantisablePlanes}
 use Rattle.dirac_encode_picture.proofs.making.residual_at.Goals as goal
 

@@ -1,7 +1,7 @@
 use Rattle.std.proofs.Common.{Some, ap, subst, sym}
 use Rattle.dirac_common.specs.Limits.{IsEncodedDepth, IsWavelet}
 use Rattle.dirac_common.specs.declared.formats.Kind.TheVariants.{Inter}
-use Rattle.dirac_header.specs.declared.transform.Transform.{Transform}
+use Rattle.dirac_parameters.specs.declared.transform.Transform.{Transform}
 use Rattle.dirac_sequence_header.specs.declared.sequence.Sequence.{Sequence}
 use Rattle.dirac_picture.specs.declared.coded.CodedMotion.{CodedMotion}
 use Rattle.dirac_encode_laws.proofs.Coding.{codable}

@@ -1,7 +1,7 @@
 use Rattle.std.proofs.Common.{subst, sym}
 use Rattle.dirac_common.specs.Limits.{IsEncodedDepth, IsWavelet}
 use Rattle.dirac_common.specs.declared.formats.Kind.TheVariants.{Intra}
-use Rattle.dirac_header.specs.declared.transform.Transform.{Transform}
+use Rattle.dirac_parameters.specs.declared.transform.Transform.{Transform}
 use Rattle.dirac_encode_laws.proofs.Coding.{codable}
 use Rattle.dirac_encode_picture.proofs.Asking.{source_codable}
 use Rattle.dirac_encode_picture.proofs.Preparing.{analysed_with, intra_prepared}

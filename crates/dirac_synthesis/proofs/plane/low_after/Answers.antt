@@ -1,5 +1,5 @@
 use Rattle.std.proofs.Common.{◌≡◌, ℕ, slice_get, Some, arith, ap, ◌∙◌, subst}
-use Rattle.dirac_header.specs.Counts.{counts_among}
+use Rattle.dirac_parameters.specs.Counts.{counts_among}
 use Rattle.dirac_synthesis.specs.Codeblocks.{HasIndices}
 use Rattle.dirac_synthesis.specs.Fits.{IsBandOf}
 use Rattle.dirac_synthesis.proofs.LevelBounds.{IsPlane, low_first, low_next, low_stands}
