@@ -14,7 +14,8 @@ ghost use Rattle.dirac_encode_laws.specs.Fit.{IsLeast, fit, length_at};
 ghost use Rattle.dirac_encode.specs.Asked.{HasChosenBlocks, asked_job};
 
 use dirac_common::{LARGEST_INDEX, NoMemory, Picture, RowGate};
-use dirac_encode_picture::{Asked, Coded, Prepared, code_prepared, prepare_picture};
+use dirac_encode_laws::Coded;
+use dirac_encode_picture::{Asked, Prepared, code_prepared, prepare_picture};
 use dirac_plan::Planned;
 use dirac_refs::RefBuffer;
 use dirac_types::Settings;

@@ -2,14 +2,11 @@
 #![tactic(auto)]
 
 mod fitting;
-mod pictures;
-mod planned;
 mod shared;
-mod source;
 mod stream;
 
-pub use dirac_encode_laws::{Encoded, streams_show_their_pictures};
-pub use dirac_encode_picture::{Coded, choose_blocks, code_picture, code_with_blocks};
+pub use dirac_encode_laws::{Coded, Encoded, streams_show_their_pictures};
+pub use dirac_encode_picture::{choose_blocks, code_picture, code_with_blocks};
 pub use dirac_sources::{picture_of, raw_length};
 pub use fitting::fit_picture;
 pub use stream::{StreamCoder, encode_by, encode_stream};

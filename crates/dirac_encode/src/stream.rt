@@ -2,23 +2,27 @@
 
 ghost use Rattle.std.specs.Prelude.{◌≡◌, ◌≤◌, ℕ, List, [], length, IfSome, IfOk};
 ghost use Rattle.std.specs.Io.KnownBytes.{IsAtEnd};
+ghost use Rattle.std.specs.Thread.{IsSync};
 ghost use Rattle.dirac_io.specs.Faults.{Rose};
 ghost use Rattle.dirac_types.specs.Settings.{IsAccepted};
 ghost use Rattle.dirac_encode_laws.specs.Alike.{AreShownAlike};
-ghost use Rattle.dirac_encode_laws.specs.Coding.{own_index};
+ghost use Rattle.dirac_encode_laws.specs.Coding.{made_under, own_index};
 ghost use Rattle.dirac_encode_laws.specs.Encoding.{AnswersEncodedStream, EncodesToTheEnd, IsRecovered};
 ghost use Rattle.dirac_encode_laws.specs.Encoding.{IsRecoveredUnder, encoding};
 ghost use Rattle.dirac_encode_laws.specs.Encoding.{encoding_under};
 ghost use Rattle.dirac_encode_laws.specs.Fit.{rule_of};
 ghost use Rattle.dirac_encode_laws.specs.Standing.{jobs_in};
 ghost use Rattle.dirac_encode_progress.specs.Alone.{WritesDue, WritesFrontOfRead};
+ghost use Rattle.dirac_encode_progress.specs.PictureCoding.{IsCodedUnder, IsReadyToCode};
 
-use crate::pictures::put_pictures;
-use dirac_common::{NoMemory, RowGate};
-use dirac_encode_laws::{Encoded, streams_show_their_pictures};
-use dirac_encode_progress::{Coder, Progress};
+use crate::fitting::fit_picture;
+use dirac_common::{NoMemory, Picture, RowGate};
+use dirac_encode_laws::{Coded, Encoded, streams_show_their_pictures};
+use dirac_encode_picture::code_picture;
+use dirac_encode_progress::{Coder, Progress, put_pictures};
 use dirac_io::{Sink, Source};
-use dirac_plan::Planner;
+use dirac_plan::{Planned, Planner};
+use dirac_refs::RefBuffer;
 use dirac_sequence::write_sequence;
 use dirac_sources::raw_length;
 use dirac_types::Settings;
@@ -92,6 +96,33 @@ pub struct StreamCoder<'a, R, G> {
     pub gate: &'a G,
 }
 
+/// Codes a planned picture: with the settings' index, or under a budget with the least by which its unit fits.
+fn code_picture_by<R: Threads + Sync, G: RowGate>(
+    coder: &StreamCoder<R, G>,
+    planned: &Planned,
+    source: &Picture,
+    refs: &RefBuffer,
+) -> Result<Coded, NoMemory>
+    requires { IsReadyToCode coder.now.settings.now refs.now planned.now source.now }
+    ensures payload { IfOk result (λ c. c.payload.items
+        ≡ (made_under (rule_of coder.now.budget) coder.now.settings.now refs.now
+        (record { planned = planned.now; source = source.now })).payload) }
+    ensures shown { IfOk result (λ c. c.shown
+        ≡ (made_under (rule_of coder.now.budget) coder.now.settings.now refs.now
+        (record { planned = planned.now; source = source.now })).shown) }
+{
+    let (rt, alloc, settings, gate) = (coder.rt, coder.alloc, coder.settings, coder.gate);
+    match coder.budget {
+        None => code_picture(rt, alloc, planned, source, refs, settings, gate),
+        Some(budget) => {
+            let (coded, _index) = fit_picture(
+                rt, alloc, planned, source, refs, settings, budget, gate,
+            )?;
+            Ok(coded)
+        }
+    }
+}
+
 /// Encodes raw pictures until the source ends: the stream goes to `out`, and the pictures that decoders show for it, in
 /// order of display, as raw pictures to `side`.
 pub fn encode_by<R: Threads + Sync, S: Source, K: Sink, N: Sink, G: RowGate>(
@@ -136,13 +167,18 @@ pub fn encode_by<R: Threads + Sync, S: Source, K: Sink, N: Sink, G: RowGate>(
     let Ok(mut planner) = Planner::try_new(alloc, settings) else {
         return Encoded::NoMemory;
     };
+    let code = |planned: &Planned, source: &Picture, refs: &RefBuffer| -> Result<Coded, NoMemory>
+        requires { IsSync R.row × IsSync G.row
+            × IsReadyToCode coder.now.settings.now refs.now planned.now source.now }
+        ensures { IfOk result (IsCodedUnder (rule_of coder.entry.now.budget) coder.entry.now.settings.now
+            refs.now planned.now source.now) }
+    { code_picture_by(coder, planned, source, refs) };
     let coder = Coder {
-        rt: coder.rt,
         alloc,
         settings,
         header: header.as_slice(),
         budget: coder.budget,
-        gate: coder.gate,
+        code: &code,
     };
     let mut coding = Progress::new(alloc);
     put_pictures(

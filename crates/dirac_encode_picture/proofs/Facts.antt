@@ -26,7 +26,7 @@ use Rattle.dirac_encode_laws.proofs.Kept.{kept_with}
 use Rattle.dirac_encode_laws.proofs.Lefts.{motion_fits}
 use Rattle.dirac_encode_laws.proofs.Reading.{Moves, predicting, read_spelled, residual_fits, residual_small}
 use Rattle.dirac_encode_laws.proofs.Reading.Moves.{moves, stays}
-use Rattle.dirac_encode_picture.specs.declared.picture.Coded.{Coded}
+use Rattle.dirac_encode_laws.specs.declared.coded.Coded.{Coded}
 use Rattle.dirac_encode_picture.specs.Asked.{HasBlocks, IsAsked, IsCodingOfPicture}
 
 -- just an inter picture has motion

@@ -19,7 +19,7 @@ use Rattle.dirac_motion.specs.Chosen.{IsChosen}
 use Rattle.dirac_motion.specs.Lent.{AreLent, AreNamed}
 use Rattle.dirac_encode_picture.specs.declared.asked.Asked.{Asked}
 use Rattle.dirac_encode_picture.specs.declared.prepared.Moving.{Moving}
-use Rattle.dirac_encode_picture.specs.declared.picture.Coded.{Coded}
+use Rattle.dirac_encode_laws.specs.declared.coded.Coded.{Coded}
 
 -- accepted settings, a source and listed pictures of their size, and a planned picture whose references are found
 pub record IsAsked (t : Settings) (refs : List Picture) (q : Planned) (p : Picture) : Type 0 where

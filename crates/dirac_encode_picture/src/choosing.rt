@@ -15,11 +15,12 @@ ghost use Rattle.dirac_encode_picture.specs.Asked.{CanBeCoded};
 ghost use Rattle.dirac_encode_picture.specs.Prepared.{IsPreparedFor, blocks_in};
 
 use crate::asked::Asked;
-use crate::picture::{Coded, code_at};
+use crate::picture::code_at;
 use crate::prepared::{Moving, Prepared, prepare_by};
 use crate::workers::SeveralWorkers;
 use dirac_common::{NoMemory, Picture, RowGate};
 use dirac_content::named_reference;
+use dirac_encode_laws::Coded;
 use dirac_motion::{Lumas, choose_from};
 use dirac_picture::is_intra;
 use dirac_plan::Planned;

@@ -22,6 +22,7 @@ use crate::prepared::{Prepared, prepare};
 use crate::workers::{OneWorker, Workers};
 use dirac_block_table::BlockData;
 use dirac_common::{NoMemory, Picture};
+use dirac_encode_laws::Coded;
 use dirac_picture::payload_bytes;
 use dirac_plan::Planned;
 use dirac_reconstruct::{Finished, Finishing};
@@ -29,13 +30,6 @@ use dirac_refs::RefBuffer;
 use dirac_sequence::sequence_of;
 use dirac_types::Settings;
 use std::alloc::Global;
-
-/// A picture's payload, and the picture that a decoder shows for it.
-#[derive(Drop)]
-pub struct Coded {
-    pub payload: Vec<u8>,
-    pub shown: Picture,
-}
 
 /// Bytes are below 256.
 fn are_bytes(bytes: &[u8])

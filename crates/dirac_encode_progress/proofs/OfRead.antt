@@ -102,6 +102,19 @@ front_of_nothing f t (Some bytes) out side = record {
   written = (([], (encoding_under f t []).stream, refl, Appends-nil out), ([], _, refl, Appends-nil side));
 }
 
+-- what was coded so far are the first pictures in coding order
+first_coded : (f : IndexRule) (t : Settings) (bytes : List ℕ) (p : Planning) (c : Progress) (held out0 out side0 side : Option (List ℕ)) (r : Runs f t bytes p c held out0 out side0 side) → take c.count (coding_in f t bytes) ≡ r.goes.stands.done
+first_coded f t bytes p c held out0 out side0 side r =
+    ap (take c.count) r.goes.stands.all ∙ take_at r.goes.stands.done (coded_under f t c.refs (drop c.count (jobs_in t bytes))) c.count r.goes.stands.count
+
+first_written : (f : IndexRule) (t : Settings) (bytes : List ℕ) (p : Planning) (c : Progress) (held out0 out side0 side : Option (List ℕ)) → Runs f t bytes p c held out0 out side0 side → Appends out0 out (units_of t 0 (take c.count (coding_in f t bytes)))
+first_written f t bytes p c held out0 out side0 side r =
+    subst (λ (ms : List Made). Appends out0 out (units_of t 0 ms)) (sym (first_coded f t bytes p c held out0 out side0 side r)) r.goes.stands.written
+
+first_delivered : (f : IndexRule) (t : Settings) (bytes : List ℕ) (p : Planning) (c : Progress) (held out0 out side0 side : Option (List ℕ)) → Runs f t bytes p c held out0 out side0 side → Appends side0 side (raws (pushed_now (take c.count (coding_in f t bytes))).gone)
+first_delivered f t bytes p c held out0 out side0 side r =
+    subst (λ (ms : List Made). Appends side0 side (raws (pushed_now ms).gone)) (sym (first_coded f t bytes p c held out0 out side0 side r)) r.goes.stands.delivered
+
 -- where a read failed
 held_is : (part other : List ℕ) → Some part ≡ Some other → part ≡ other
 held_is part other is = cc
@@ -115,8 +128,8 @@ due_by f t (Some bytes) p c held held' out0 out side0 side part a got short few 
     let r : Runs f t read p c (Some part) out0 out side0 side = a.runs part in
     let rest : drop (p.accepted * raw_length t) read ≡ part ++ [] = sym (held_is part (drop (p.accepted * raw_length t) read) r.is_held) ∙ sym (append-nil part) in
     let closes = closes_part t read p.accepted (length part) part [] rest refl refl short r.fits few in
-    let front : take c.count (coding_in f t read) ≡ r.goes.stands.done =
-    ap (take c.count) r.goes.stands.all ∙ take_at r.goes.stands.done (coded_under f t c.refs (drop c.count (jobs_in t read))) c.count r.goes.stands.count in
+    let all_runs : (more : List ℕ) → Runs f t (read ++ more) p c (Some (part ++ more)) out0 out side0 side =
+    λ more. subst (λ (l : List ℕ). Runs f t l p c (Some (part ++ more)) out0 out side0 side) (sym (append_assoc a.read part more)) (a.runs (part ++ more)) in
     record {
       read = read;
       rest = left.0;
@@ -124,6 +137,6 @@ due_by f t (Some bytes) p c held held' out0 out side0 side part a got short few 
       holds = left.1;
       count = c.count;
       few_wait = omega (arith, closes.all, counts, fit, ap waiting_places same, r.goes.given);
-      written = subst (λ (ms : List Made). Appends out0 out (units_of t 0 ms)) (sym front) r.goes.stands.written;
-      delivered = subst (λ (ms : List Made). Appends side0 side (raws (pushed_now ms).gone)) (sym front) r.goes.stands.delivered;
+      written = λ more. first_written f t (read ++ more) p c (Some (part ++ more)) out0 out side0 side (all_runs more);
+      delivered = λ more. first_delivered f t (read ++ more) p c (Some (part ++ more)) out0 out side0 side (all_runs more);
     }

@@ -20,9 +20,9 @@ pub record WritesFrontOfRead (f : IndexRule) (t : Settings) (bytes : List ℕ)
   pub holds : held' ≡ Some rest
   pub written : WritesFront (encoding_under f t read) out out' side side'
 
--- of these bytes some were read and just the others are held; of the encoding of those read just the units of the first
--- pictures in coding order were written, and just the reconstructions that leave while these are coded were delivered;
--- of the whole pictures read no more are left than may wait to be coded
+-- of these bytes some were read and just the others are held; whatever bytes follow those read, of the encoding of all
+-- these just the units of the first pictures in coding order were written, and just the reconstructions that leave while
+-- these are coded were delivered; of the whole pictures read no more are left than may wait to be coded
 pub record WritesDue (f : IndexRule) (t : Settings) (bytes : List ℕ) (held' out out' side side' : Option (List ℕ))
     : Type 0 where
   pub read : List ℕ
@@ -31,5 +31,6 @@ pub record WritesDue (f : IndexRule) (t : Settings) (bytes : List ℕ) (held' ou
   pub holds : held' ≡ Some rest
   pub count : ℕ
   pub few_wait : length (sources t read) ≤ count + waiting_places t
-  pub written : Appends out out' (units_of t 0 (take count (coding_in f t read)))
-  pub delivered : Appends side side' (raws (pushed_now (take count (coding_in f t read))).gone)
+  pub written : (more : List ℕ) → Appends out out' (units_of t 0 (take count (coding_in f t (read ++ more))))
+  pub delivered : (more : List ℕ)
+      → Appends side side' (raws (pushed_now (take count (coding_in f t (read ++ more)))).gone)

@@ -1,2 +1,3 @@
 pub mod Going
 pub mod Alone
+pub mod PictureCoding

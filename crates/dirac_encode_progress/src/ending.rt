@@ -15,8 +15,8 @@ use dirac_io::{Sink, Unwritten};
 
 /// Writes what stands behind the pictures: where there is none a sequence header, then the end unit; and all pictures
 /// that wait.
-pub fn put_last<R, K: Sink, N: Sink, G>(
-    coder: &Coder<R, G>,
+pub fn put_last<F, K: Sink, N: Sink>(
+    coder: &Coder<F>,
     out: &mut K,
     side: &mut N,
     coding: &mut Progress,

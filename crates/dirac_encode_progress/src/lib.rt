@@ -1,15 +1,16 @@
-//! How far the encoding of a stream is: what was coded, the units around pictures, deliveries and the end, with the laws
-//! by which a picture, a plan and a read lead on.
+//! How a stream of raw pictures is encoded, by whatever codes one picture: what was coded so far, the units around
+//! pictures, deliveries and the end, with the laws by which a picture, a plan and a read lead on.
 #![tactic(auto)]
 
 mod coder;
 mod delivering;
 mod ending;
+mod pictures;
+mod planned;
 mod progress;
+mod source;
 mod units;
 
 pub use coder::Coder;
-pub use delivering::deliver;
-pub use ending::put_last;
+pub use pictures::put_pictures;
 pub use progress::Progress;
-pub use units::put_header;

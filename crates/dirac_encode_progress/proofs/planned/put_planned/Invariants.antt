@@ -1,7 +1,7 @@
 use Rattle.std.proofs.Common.{◌≡◌, ◌≤◌, length, true}
 use Rattle.dirac_encode_laws.specs.Fit.{rule_of}
 use Rattle.dirac_encode_progress.specs.Going.{LeadsOn, PlanIsListed, so_far}
-use Rattle.dirac_encode.proofs.planned.put_planned.Given as goal
+use Rattle.dirac_encode_progress.proofs.planned.put_planned.Given as goal
 
 abbrev pub invariant-planned : goal.invariant-planned
 invariant-planned g l = record {

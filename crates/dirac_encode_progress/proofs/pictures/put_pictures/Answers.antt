@@ -14,7 +14,7 @@ use Rattle.dirac_encode_progress.specs.Going.{so_far}
 use Rattle.dirac_encode_progress.proofs.Finding.{lists_first, lists_pushed}
 use Rattle.dirac_encode_progress.proofs.Reading.{behind_some, end_early, end_stops, ends_recovered, fault_stops_coding, many_ended, many_ends, next_leads, next_stops, open_at_first, part_ended, part_ends, so_far_first, stop_no_part, stopped_before_the_end, stops_here}
 use Rattle.dirac_encode_progress.proofs.OfRead.{alone_first, alone_leads, due_by, front_by}
-use Rattle.dirac_encode.proofs.pictures.put_pictures.Goals as goal
+use Rattle.dirac_encode_progress.proofs.pictures.put_pictures.Goals as goal
 
 pub pictures-init : goal.pictures-init
 pictures-init g c =
@@ -234,7 +234,7 @@ pictures-preserved g c =
     }
 
 pub put_planned-requires-in-pictures-clause-lists : goal.put_planned-requires-in-pictures-clause-lists
-put_planned-requires-in-pictures-clause-lists g c κs lives =
+put_planned-requires-in-pictures-clause-lists g c =
     lists_pushed c.args.coder.now.settings.now c.pictures.planner c.push.new.self (so_far c.pictures.coding) c.in-Ok.picture c.pictures.invariant.lists c.in-Ok.ensures.fits c.in-Ok-push.ensures.accepted
     (omega (arith, c.accepted-number.ensures.value, c.if-number-settings.false, c.pictures.invariant.in_range, most_pictures c.args.coder.now.settings.now c.requires.accepted))
 

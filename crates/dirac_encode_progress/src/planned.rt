@@ -8,25 +8,33 @@ ghost use Rattle.dirac_plan.specs.Planning.{is_closed, waiting_places};
 ghost use Rattle.dirac_encode_laws.specs.Fit.{rule_of};
 ghost use Rattle.dirac_encode_laws.specs.Steps.{StopsCoding};
 ghost use Rattle.dirac_encode_progress.specs.Going.{LeadsOn, PlanIsListed, Stops, so_far};
+ghost use Rattle.dirac_encode_progress.specs.PictureCoding.{CodesUnder};
 
+use crate::coder::Coder;
+use crate::progress::Progress;
 use crate::source::put_source;
-use dirac_common::RowGate;
-use dirac_encode_laws::Encoded;
-use dirac_encode_progress::{Coder, Progress};
+use dirac_common::{NoMemory, Picture};
+use dirac_encode_laws::{Coded, Encoded};
 use dirac_io::Sink;
-use dirac_plan::Planner;
+use dirac_plan::{Planned, Planner};
 use dirac_plan_laws::plans_can_be_coded;
-use std::thread::Threads;
+use dirac_refs::RefBuffer;
 
 /// Codes all pictures that can be coded by now; where the pictures have ended, all that are left.
-pub(crate) fn put_planned<R: Threads + Sync, K: Sink, N: Sink, G: RowGate>(
-    coder: &Coder<R, G>,
+pub(crate) fn put_planned<
+    F: Fn(&Planned, &Picture, &RefBuffer) -> Result<Coded, NoMemory>,
+    K: Sink,
+    N: Sink,
+>(
+    coder: &Coder<F>,
     out: &mut K,
     side: &mut N,
     planner: &mut Planner,
     ended: bool,
     coding: &mut Progress,
 ) -> Result<(), Encoded>
+    requires codes { CodesUnder (rule_of coder.now.budget) coder.now.settings.now (F.pre coder.now.code.now)
+        (F.post coder.now.code.now) }
     requires accepted { IsAccepted coder.now.settings.now }
     requires header { coder.now.header.now ≡ sequence_payload coder.now.settings.now }
     requires settings { planner.old.settings ≡ coder.now.settings.now }

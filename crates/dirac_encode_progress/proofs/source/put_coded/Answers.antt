@@ -1,7 +1,7 @@
 use Rattle.std.proofs.Common.{ℕ, List, refl, subst}
 use Rattle.std.specs.Io.KnownBytes.{Appends}
 use Rattle.dirac_encode_laws.specs.Stream.{unit}
-use Rattle.dirac_encode.proofs.source.put_coded.Goals as goal
+use Rattle.dirac_encode_progress.proofs.source.put_coded.Goals as goal
 
 pub returns-in-Ok-deliver-clause-out : goal.returns-in-Ok-deliver-clause-out
 returns-in-Ok-deliver-clause-out g c =

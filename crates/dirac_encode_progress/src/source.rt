@@ -19,19 +19,20 @@ ghost use Rattle.dirac_encode_laws.specs.Fit.{rule_of};
 ghost use Rattle.dirac_encode_laws.specs.Steps.{IsCoded, IsFault, StopsCoding, StopsPicture};
 ghost use Rattle.dirac_encode_laws.specs.Stream.{unit};
 ghost use Rattle.dirac_encode_progress.specs.Going.{waiting_joined, so_far};
+ghost use Rattle.dirac_encode_progress.specs.PictureCoding.{CodesUnder, IsReadyToCode};
 
-use crate::fitting::fit_picture;
-use dirac_common::{NoMemory, Picture, RowGate};
-use dirac_encode_laws::Encoded;
-use dirac_encode_picture::{Coded, code_picture};
-use dirac_encode_progress::{Coder, Progress, deliver, put_header};
+use crate::coder::Coder;
+use crate::delivering::deliver;
+use crate::progress::Progress;
+use crate::units::put_header;
+use dirac_common::{NoMemory, Picture};
+use dirac_encode_laws::{Coded, Encoded};
 use dirac_io::{Put, Sink, Unwritten};
 use dirac_picture::is_intra;
 use dirac_plan::Planned;
 use dirac_refs::{RefBuffer, reference_of};
 use dirac_units::{PARSE_INFO_LENGTH, put_unit};
 use std::alloc::Global;
-use std::thread::Threads;
 
 /// Writes the unit of a coded picture behind a unit of `previous` bytes, lists the reconstruction if others may refer
 /// to it, and delivers what leaves.
@@ -102,18 +103,16 @@ fn length_before(code: u8, header: &[u8], previous: u32) -> u32
     }
 }
 
-/// Codes a planned picture: with the settings' index, or under a budget with the least by which its unit fits.
-fn code_source<R: Threads + Sync, G: RowGate>(
-    coder: &Coder<R, G>,
+/// Codes a planned picture by the call handed in.
+fn code_source<F: Fn(&Planned, &Picture, &RefBuffer) -> Result<Coded, NoMemory>>(
+    coder: &Coder<F>,
     planned: &Planned,
     source: &Picture,
     refs: &RefBuffer,
 ) -> Result<Coded, NoMemory>
-    requires accepted { IsAccepted coder.now.settings.now }
-    requires listed { AllByRecursion (IsSource coder.now.settings.now) refs.now }
-    requires source { IsSource coder.now.settings.now source.now }
-    requires planned { IsPlanned planned.now }
-    requires found { are_listed refs.now (header_of planned.now) ≡ true }
+    requires codes { CodesUnder (rule_of coder.now.budget) coder.now.settings.now (F.pre coder.now.code.now)
+        (F.post coder.now.code.now) }
+    requires ready { IsReadyToCode coder.now.settings.now refs.now planned.now source.now }
     ensures payload { IfOk result (λ c. c.payload.items
         ≡ (made_under (rule_of coder.now.budget) coder.now.settings.now refs.now
         (record { planned = planned.now; source = source.now })).payload) }
@@ -121,27 +120,26 @@ fn code_source<R: Threads + Sync, G: RowGate>(
         ≡ (made_under (rule_of coder.now.budget) coder.now.settings.now refs.now
         (record { planned = planned.now; source = source.now })).shown) }
 {
-    let (rt, alloc, settings, gate) = (coder.rt, coder.alloc, coder.settings, coder.gate);
-    match coder.budget {
-        None => code_picture(rt, alloc, planned, source, refs, settings, gate),
-        Some(budget) => {
-            let (coded, _index) = fit_picture(
-                rt, alloc, planned, source, refs, settings, budget, gate,
-            )?;
-            Ok(coded)
-        }
-    }
+    let code = coder.code;
+    let coded = code(planned, source, refs)?;
+    Ok(coded)
 }
 
 /// Codes a planned picture and writes its unit, an intra picture's behind a sequence header.
-pub(crate) fn put_source<R: Threads + Sync, K: Sink, N: Sink, G: RowGate>(
-    coder: &Coder<R, G>,
+pub(crate) fn put_source<
+    F: Fn(&Planned, &Picture, &RefBuffer) -> Result<Coded, NoMemory>,
+    K: Sink,
+    N: Sink,
+>(
+    coder: &Coder<F>,
     out: &mut K,
     side: &mut N,
     planned: &Planned,
     source: &Picture,
     coding: &mut Progress,
 ) -> Result<(), Encoded>
+    requires codes { CodesUnder (rule_of coder.now.budget) coder.now.settings.now (F.pre coder.now.code.now)
+        (F.post coder.now.code.now) }
     requires accepted { IsAccepted coder.now.settings.now }
     requires header { coder.now.header.now ≡ sequence_payload coder.now.settings.now }
     requires planned { IsPlanned planned.now }

@@ -6,7 +6,7 @@ use Rattle.dirac_encode_laws.specs.Fit.{rule_of}
 use Rattle.dirac_encode_progress.specs.Going.{PlanIsListed, so_far}
 use Rattle.dirac_encode_progress.proofs.OfRead.{Alone}
 use Rattle.dirac_encode_progress.proofs.Reading.{SoFar}
-use Rattle.dirac_encode.proofs.pictures.put_pictures.Given as goal
+use Rattle.dirac_encode_progress.proofs.pictures.put_pictures.Given as goal
 
 abbrev pub invariant-pictures : goal.invariant-pictures
 invariant-pictures g l = record {

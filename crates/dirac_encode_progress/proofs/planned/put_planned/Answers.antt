@@ -3,7 +3,7 @@ use Rattle.dirac_encode_laws.specs.Fit.{rule_of}
 use Rattle.dirac_encode_progress.specs.Going.{so_far}
 use Rattle.dirac_encode_progress.proofs.Finding.{lists_found, lists_more, lists_told}
 use Rattle.dirac_encode_progress.proofs.Going.{goes_more, goes_told, stops_more}
-use Rattle.dirac_encode.proofs.planned.put_planned.Goals as goal
+use Rattle.dirac_encode_progress.proofs.planned.put_planned.Goals as goal
 
 pub returns-in-Err-clause-stopped : goal.returns-in-Err-clause-stopped
 returns-in-Err-clause-stopped g c bytes out0 side0 leave start =
@@ -38,23 +38,23 @@ pub returns-clause-lists : goal.returns-clause-lists
 returns-clause-lists g c = lists_told c.args.coder.now.settings.now c.args.ended c.args.ended c.planned.planner c.take.new.self (so_far c.planned.coding) c.in_default.ensures.in_vain c.planned.invariant.lists
 
 pub put_source-requires-clause-found : goal.put_source-requires-clause-found
-put_source-requires-clause-found g c κs lives =
+put_source-requires-clause-found g c =
     (lists_found c.plans_can_be_coded.ensures c.args.coder.now.settings.now c.args.ended c.planned.planner c.take.new.self (so_far c.planned.coding) c.in-Some.planned c.in-Some.source c.requires.accepted c.planned.invariant.settings c.planned.invariant.lists c.in-Some.ensures.takes).0
 
 pub put_source-requires-clause-planned : goal.put_source-requires-clause-planned
-put_source-requires-clause-planned g c κs lives =
+put_source-requires-clause-planned g c =
     (lists_found c.plans_can_be_coded.ensures c.args.coder.now.settings.now c.args.ended c.planned.planner c.take.new.self (so_far c.planned.coding) c.in-Some.planned c.in-Some.source c.requires.accepted c.planned.invariant.settings c.planned.invariant.lists c.in-Some.ensures.takes).1
 
 pub put_source-requires-clause-source : goal.put_source-requires-clause-source
-put_source-requires-clause-source g c κs lives =
+put_source-requires-clause-source g c =
     (lists_found c.plans_can_be_coded.ensures c.args.coder.now.settings.now c.args.ended c.planned.planner c.take.new.self (so_far c.planned.coding) c.in-Some.planned c.in-Some.source c.requires.accepted c.planned.invariant.settings c.planned.invariant.lists c.in-Some.ensures.takes).2
 
 pub put_source-requires-clause-listed : goal.put_source-requires-clause-listed
-put_source-requires-clause-listed g c κs lives =
+put_source-requires-clause-listed g c =
     (lists_found c.plans_can_be_coded.ensures c.args.coder.now.settings.now c.args.ended c.planned.planner c.take.new.self (so_far c.planned.coding) c.in-Some.planned c.in-Some.source c.requires.accepted c.planned.invariant.settings c.planned.invariant.lists c.in-Some.ensures.takes).3
 
 pub put_source-requires-clause-in_range : goal.put_source-requires-clause-in_range
-put_source-requires-clause-in_range g c κs lives =
+put_source-requires-clause-in_range g c =
     let takes = c.in-Some.ensures.takes in
     let lists = c.planned.invariant.lists in
     omega (arith, takes.given, takes.accepted, lists.given, lists.in_range, c.take.ensures.counts)

@@ -2,7 +2,7 @@ use Rattle.std.proofs.Common.{◌≡◌, ℕ, Option, sym, subst}
 use Rattle.std.specs.Prelude.{IfOk}
 use Rattle.dirac_encode_laws.specs.Coding.{Job, made_under}
 use Rattle.dirac_encode_laws.specs.Fit.{rule_of}
-use Rattle.dirac_encode.proofs.source.code_source.Goals as goal
+use Rattle.dirac_encode.proofs.stream.code_picture_by.Goals as goal
 
 pub returns-in-None-clause-payload : goal.returns-in-None-clause-payload
 returns-in-None-clause-payload g c =

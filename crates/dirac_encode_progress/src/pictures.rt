@@ -14,16 +14,19 @@ ghost use Rattle.dirac_encode_laws.specs.Fit.{rule_of};
 ghost use Rattle.dirac_encode_laws.specs.Steps.{no_progress};
 ghost use Rattle.dirac_encode_progress.specs.Alone.{WritesDue, WritesFrontOfRead};
 ghost use Rattle.dirac_encode_progress.specs.Going.{so_far};
+ghost use Rattle.dirac_encode_progress.specs.PictureCoding.{CodesUnder};
 
+use crate::coder::Coder;
+use crate::ending::put_last;
 use crate::planned::put_planned;
-use dirac_common::RowGate;
-use dirac_encode_laws::{Encoded, streams_show_their_pictures};
-use dirac_encode_progress::{Coder, Progress, put_last};
+use crate::progress::Progress;
+use dirac_common::{NoMemory, Picture};
+use dirac_encode_laws::{Coded, Encoded, streams_show_their_pictures};
 use dirac_io::{Filled, Sink, Source, fill};
-use dirac_plan::Planner;
+use dirac_plan::{Planned, Planner};
 use dirac_plan_laws::plans_can_be_coded;
+use dirac_refs::RefBuffer;
 use dirac_sources::picture_of;
-use std::thread::Threads;
 
 /// Bytes are below 256.
 fn are_bytes(bytes: &[u8])
@@ -42,8 +45,13 @@ fn behind_whole(left_over: usize) -> Encoded
 }
 
 /// Codes pictures until the source ends; `bytes` is a buffer for a raw picture, whatever it holds.
-pub(crate) fn put_pictures<R: Threads + Sync, S: Source, K: Sink, N: Sink, G: RowGate>(
-    coder: &Coder<R, G>,
+pub fn put_pictures<
+    F: Fn(&Planned, &Picture, &RefBuffer) -> Result<Coded, NoMemory>,
+    S: Source,
+    K: Sink,
+    N: Sink,
+>(
+    coder: &Coder<F>,
     source: &mut S,
     out: &mut K,
     side: &mut N,
@@ -51,6 +59,8 @@ pub(crate) fn put_pictures<R: Threads + Sync, S: Source, K: Sink, N: Sink, G: Ro
     coding: &mut Progress,
     bytes: &mut [u8],
 ) -> Encoded
+    requires codes { CodesUnder (rule_of coder.now.budget) coder.now.settings.now (F.pre coder.now.code.now)
+        (F.post coder.now.code.now) }
     requires accepted { IsAccepted coder.now.settings.now }
     requires header { coder.now.header.now ≡ sequence_payload coder.now.settings.now }
     requires bytes { length bytes.old ≡ length_of coder.now.settings.now }

@@ -4,7 +4,7 @@ use Rattle.dirac_encode_progress.specs.Going.{so_far}
 use Rattle.dirac_encode_laws.specs.Coding.{Job}
 use Rattle.dirac_encode_laws.proofs.Accepted.{most_bytes}
 use Rattle.dirac_encode_progress.proofs.Stepping.{header_fits, if_err, on_ok_six, previous_is, step_coded, step_long, step_stopped}
-use Rattle.dirac_encode.proofs.source.put_source.Goals as goal
+use Rattle.dirac_encode_progress.proofs.source.put_source.Goals as goal
 
 pub returns-then-len-from-clause-stopped : goal.returns-then-len-from-clause-stopped
 returns-then-len-from-clause-stopped g c =
