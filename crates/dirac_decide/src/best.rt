@@ -66,7 +66,8 @@ pub fn vector_cost_below(
     requires inputs { IsDeciding (deciding_of inputs.now) }
     requires unit { IsPredictionUnit inputs.now.across inputs.now.down unit }
     requires vector { IsShortVector vector }
-    ensures told { IsToldBelow limit (units.vector_cost (deciding_of inputs.now) (view_of view.now) unit vector) result }
+    ensures told { IsToldBelow limit (units.vector_cost (deciding_of inputs.now) (view_of view.now) unit vector)
+        result }
     ensures at_most_2_29 { result ≤ 2 ^ 29 }
 {
     let bits = price(inputs.bias, vector_bits(vector));

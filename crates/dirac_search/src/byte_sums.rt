@@ -234,8 +234,8 @@ pub fn means_below(
         (length b.now) }
     requires corners_right { AreInside (record { first = corners.right + corners.under; step = step })
         tried.window.rows (length b.now) }
-    ensures { StopsAt tried.limit (tried.first + sum_below (strided_means a.now left b.now corners step) tried.window.rows)
-        result }
+    ensures { StopsAt tried.limit
+        (tried.first + sum_below (strided_means a.now left b.now corners step) tried.window.rows) result }
 {
     let mut sum = tried.first;
     'rows: for k in 0..tried.window.rows {
