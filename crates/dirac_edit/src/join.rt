@@ -51,7 +51,7 @@ pub fn join_stream<S: Source, K: Sink>(alloc: Global, source: &mut S, out: &mut 
 /// The sequences of a stream, or why nothing is written.
 fn whole_of<'a>(alloc: Global, bytes: &'a [u8]) -> Result<Vec<HeldSequence<'a>>, Edited>
     requires { length bytes.now < 2 ^ 63 }
-    ensures whole { IfOk result (λ all. IsJoinable bytes.now all.items) }
+    ensures is_joinable { IfOk result (λ all. IsJoinable bytes.now all.items) }
     ensures refused { IfErr result (RefusesJoin bytes.now) }
 {
     check(alloc, bytes)?;

@@ -71,7 +71,7 @@ fn is_inner(source: &Plane, window: Window) -> bool
     requires y { window.y ≤ 65536 }
     requires rows { window.rows ≤ 16 }
     ensures columns { IsTrue result → window.columns ≡ 8 }
-    ensures some { IsTrue result → 1 ≤ window.rows }
+    ensures has_rows { IsTrue result → 1 ≤ window.rows }
     ensures right { IsTrue result → window.x + 8 ≤ source.now.width }
     ensures bottom { IsTrue result → window.y + window.rows ≤ source.now.height }
 {
@@ -86,7 +86,7 @@ fn is_inner(source: &Plane, window: Window) -> bool
 fn source_rows(source: &Plane, window: Window) -> Strided
     requires right { window.x + 8 ≤ source.now.width }
     requires bottom { window.y + window.rows ≤ source.now.height }
-    requires some { 1 ≤ window.rows }
+    requires has_rows { 1 ≤ window.rows }
     ensures first { result.first ≡ window.y * source.now.width + window.x }
     ensures step { result.step ≡ source.now.width }
     ensures source_len { length source.now.values ≡ source.now.width * source.now.height }
@@ -135,7 +135,7 @@ fn places_below(
     requires tried { IsTried tried }
     requires held { HasAllSamplesOfWindow source.now up.now precision x y tried }
     requires rests { (x.rest ≡ 0) × (y.rest ≡ 0) }
-    requires some { 1 ≤ tried.window.rows }
+    requires has_rows { 1 ≤ tried.window.rows }
     ensures { StopsAt tried.limit (sub_sum source.now up.now precision tried) result }
 {
     let columns = line_columns(up);
@@ -167,7 +167,7 @@ fn quarters_below(
     requires quarters { precision ≡ 2 }
     requires tried { IsTried tried }
     requires held { HasAllSamplesOfWindow source.now up.now precision x y tried }
-    requires some { 1 ≤ tried.window.rows }
+    requires has_rows { 1 ≤ tried.window.rows }
     ensures { StopsAt tried.limit (sub_sum source.now up.now precision tried) result }
 {
     let columns = line_columns(up);
@@ -201,7 +201,7 @@ fn held_below(
     requires precision { (1 ≤ precision) × (precision ≤ 2) }
     requires tried { IsTried tried }
     requires held { HasAllSamplesOfWindow source.now up.now precision x y tried }
-    requires some { 1 ≤ tried.window.rows }
+    requires has_rows { 1 ≤ tried.window.rows }
     ensures { StopsAt tried.limit (sub_sum source.now up.now precision tried) result }
 {
     if x.rest == 0 && y.rest == 0 {

@@ -11,12 +11,12 @@ returns-in-Err-clause-answer g c = stop_named c.in-Err.answer c.in-Err.ensures.s
 pub returns-in-Ok-whole_of-clause-joined : goal.returns-in-Ok-whole_of-clause-joined
 returns-in-Ok-whole_of-clause-joined g c =
     join_written (g.S.Source.held c.args.source.now) (g.K.Sink.taken c.args.out.now) (g.K.Sink.taken c.put_joined.new.out) c.in-Ok.bytes.items c.as_slice.result.now
-    c.in-Ok-whole_of.sequences.items c.as_slice-in-Ok-whole_of.result.now c.of.result c.put_joined.result c.in-Ok.ensures.all c.as_slice.ensures.value c.in-Ok-whole_of.ensures.whole c.as_slice-in-Ok-whole_of.ensures.value
+    c.in-Ok-whole_of.sequences.items c.as_slice-in-Ok-whole_of.result.now c.of.result c.put_joined.result c.in-Ok.ensures.all c.as_slice.ensures.value c.in-Ok-whole_of.ensures.is_joinable c.as_slice-in-Ok-whole_of.ensures.value
     c.of.ensures.value c.put_joined.ensures.all c.put_joined.ensures.front
 
 pub returns-in-Ok-whole_of-clause-shows : goal.returns-in-Ok-whole_of-clause-shows
 returns-in-Ok-whole_of-clause-shows g c =
-    join_shows (g.S.Source.held c.args.source.now) c.in-Ok.bytes.items c.as_slice.result.now c.in-Ok-whole_of.sequences.items _ c.in-Ok.ensures.all c.as_slice.ensures.value c.in-Ok-whole_of.ensures.whole
+    join_shows (g.S.Source.held c.args.source.now) c.in-Ok.bytes.items c.as_slice.result.now c.in-Ok-whole_of.sequences.items _ c.in-Ok.ensures.all c.as_slice.ensures.value c.in-Ok-whole_of.ensures.is_joinable
 
 pub returns-clause-joined : goal.returns-clause-joined
 returns-clause-joined g c =

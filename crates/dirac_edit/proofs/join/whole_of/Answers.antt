@@ -8,8 +8,8 @@ returns-in_err-check-clause-refused c =
     let p = err_from_is_err_and c.from_residual.result c.from_residual.ensures.1 in
     rw (p.1, p.2) (join_refused_by c.args.bytes.now _ c.in_err-check.ensures.refused)
 
-pub returns-clause-whole : goal.returns-clause-whole
-returns-clause-whole c =
+pub returns-clause-is_joinable : goal.returns-clause-is_joinable
+returns-clause-is_joinable c =
     let bytes = c.args.bytes.now in
     let units = c.in-Ok.units.items in
     whole_kept bytes units c.as_slice.result.now c.in-Ok-sequences_of.sequences.items c.joined_streams_show_the_same.ensures c.are_bytes.ensures

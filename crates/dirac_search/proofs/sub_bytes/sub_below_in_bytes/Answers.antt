@@ -20,5 +20,5 @@ held_below-requires-clause-held c =
           (subst (λ (v : ℤ). IsSpotBefore q w.y v w.rows (2 * c.height.result) c.in-Some-spot_before.y) (plain_component t.v.y c.requires.tried.v.down) (c.in-Some-spot_before.ensures {u = tt}));
     }
 
-pub held_below-requires-clause-some : goal.held_below-requires-clause-some
-held_below-requires-clause-some c = c.if-is_inner.ensures.some refl
+pub held_below-requires-clause-has_rows : goal.held_below-requires-clause-has_rows
+held_below-requires-clause-has_rows c = c.if-is_inner.ensures.has_rows refl
