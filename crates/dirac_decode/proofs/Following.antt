@@ -7,9 +7,7 @@ use Rattle.dirac_common.specs.declared.faults.Fault.{Fault}
 use Rattle.dirac_units.specs.declared.info.ParseInfo.{ParseInfo}
 use Rattle.dirac_units.specs.declared.unit_place.UnitPlace.{UnitPlace}
 use Rattle.dirac_units.specs.declared.unit.Unit.{Unit}
-use Rattle.dirac_units.specs.declared.unit.StreamEnd.{StreamEnd}
 use Rattle.dirac_units.specs.declared.unit.StreamEnd.TheVariants as stream_end
-use Rattle.dirac_common.specs.declared.picture.Picture.{Picture}
 use Rattle.dirac_units.specs.Info.{fields_are_read, span_of}
 use Rattle.dirac_units.specs.Cut.{front_of}
 use Rattle.dirac_units.specs.Progress.{Ends, GivesUnit, IsFirstUnit, CuttingProgress, kept_payload}
@@ -17,11 +15,10 @@ use Rattle.dirac_units.proofs.Fronts.{front_more, front_whole}
 use Rattle.dirac_decode.specs.Stepping.{IsThere, IsWholeUnit}
 use Rattle.dirac_content.specs.StreamState.{StreamState}
 use Rattle.dirac_content.specs.Shown.{ends_with}
-use Rattle.dirac_decode.specs.Decoding.{Decoding, LeadsTo, decoding}
-use Rattle.dirac_decode.specs.Advancing.{Brings, SettlesDue}
+use Rattle.dirac_decode.specs.Advancing.{Brings}
 use Rattle.dirac_content.proofs.Passing.{told_end}
 use Rattle.dirac_decode.proofs.WholeUnits.{front_before}
-use Rattle.dirac_decode.proofs.Leading.{end_alone, ended_outcome, fault_alone, leads_same, leads_unit, not_ended, not_faulted}
+use Rattle.dirac_decode.proofs.Leading.{end_alone, ended_outcome, fault_alone, not_ended, not_faulted}
 use Rattle.dirac_decode.proofs.Alone.{part_taken_more}
 
 -- bytes ahead of known ones, and more behind them
@@ -103,9 +100,3 @@ brings_fault_more units units' state held held' more fault none there ends given
   passed = λ e. absurd (not_faulted fault e);
   alone = fault_alone units units' state (append_known held more) (append_known held' more) fault given given' none (part_taken_more units.ahead more held held' units.unit_place (Some fault) ends.taken);
 }
-
--- a decoder at which nothing was due took a unit
-pub step_leads : (a : Decoding) (units units' : CuttingProgress) (before state state' : StreamState) (draining drains : Bool) (given given' : ℕ) (m m' : StreamEnd) (held held' : Option (List ℕ)) (gone : List Picture) → decoding units before draining given m ≡ a → SettlesDue None before state draining → m ≡ stream_end.Going → Brings units units' state state' held held' drains m' gone → LeadsTo a (decoding units' state' drains given' m') held held' gone
-step_leads a units units' before state state' draining drains given given' m m' held held' gone same none going brings =
-    leads_unit a units units' before state state' draining drains given given' m m' held held held' gone
-    (leads_same a (decoding units before draining given m) held same) none going brings

@@ -7,3 +7,6 @@ pub mod Passed
 pub mod WholeUnits
 pub mod Stepped
 pub mod Alone
+pub mod Turning
+pub mod Behind
+pub mod Found

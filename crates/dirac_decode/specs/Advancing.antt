@@ -1,21 +1,52 @@
 -- What one unit of a stream does to a decoder, whatever was given so far.
 -- Inner: for the proofs of this crate.
-use Rattle.std.specs.Prelude.{◌≡◌, ℕ, ◌<◌, Bool, true, false, if◌then◌else◌, List, [], ◌∷◌, Option, None, Some, IfSome}
-use Rattle.std.specs.Prelude.{Result, Ok, Err, ⊤}
+use Rattle.std.specs.Prelude.{◌≡◌, ℕ, ◌<◌, Bool, true, false, List, [], ◌∷◌, Option, None, Some, IfSome}
+use Rattle.std.specs.Prelude.{Result, Ok, Err, ⊤, ◌+◌}
 use Rattle.std.specs.Io.KnownBytes.{append_known, prepend_known}
+use Rattle.dirac_common.specs.declared.faults.Fault.{Fault}
+use Rattle.dirac_common.specs.declared.faults.Refusal.{Refusal}
 use Rattle.dirac_common.specs.declared.picture.Picture.{Picture}
 use Rattle.dirac_units.specs.declared.unit.StreamEnd.{StreamEnd}
 use Rattle.dirac_units.specs.declared.unit.StreamEnd.TheVariants as stream_end
 use Rattle.dirac_units.specs.Cut.{front_of}
-use Rattle.dirac_units.specs.Progress.{CuttingProgress}
+use Rattle.dirac_units.specs.declared.unit.Unit.{Unit}
+use Rattle.dirac_units.specs.Progress.{CuttingProgress, Ends, GivesUnit, HoldsWhatFollows, TakesPart, TakesSome}
+use Rattle.dirac_decode.specs.declared.answers.Next.{Next}
+use Rattle.dirac_decode.specs.declared.answers.Next.TheVariants as next
 use Rattle.dirac_decode.specs.declared.step.Halt.{Halt}
 use Rattle.dirac_decode.specs.declared.step.Halt.TheVariants as halt
 use Rattle.dirac_decode.specs.declared.step.Step.{Step}
+use Rattle.dirac_decode.specs.declared.step.Turn.{Turn}
 use Rattle.dirac_decode.specs.declared.step.Step.TheVariants as step
-use Rattle.dirac_content.specs.StreamState.{StreamState}
+use Rattle.dirac_content.specs.StreamState.{StreamState, unit_step}
 use Rattle.dirac_decode.specs.Stepping.{FaultsAt, IsThere, StepTakesUnit}
-use Rattle.dirac_decode.specs.Decoding.{LeadsTo, decoding, due_of, emptied}
-use Rattle.dirac_decode.specs.Taking.{made_by, shown_in}
+use Rattle.dirac_decode.specs.Decoding.{LeadsTo, decoding}
+use Rattle.dirac_decode.specs.Taking.{IsTook, made_by, shown_in}
+
+-- the next unit was found, or this end or fault, or the search for it was stopped
+abbrev pub FindsUnit : Result Unit Halt → CuttingProgress → CuttingProgress → Option (List ℕ) → Option (List ℕ) → Type 0
+FindsUnit (Ok unit) units units' held held' =
+    GivesUnit true unit units units' held held' × HoldsWhatFollows unit units held held'
+    × (units'.stream_end ≡ stream_end.Going)
+FindsUnit (Err halt.End) units units' held held' = Ends units held held' None
+FindsUnit (Err (halt.Fault fault)) units units' held held' = Ends units held held' (Some fault)
+FindsUnit (Err halt.ReadFault) units units' held held' = TakesPart units held held'
+FindsUnit (Err halt.NoMemory) units units' held held' = TakesSome units held held'
+
+-- the content of a unit is refused with this fault
+pub record RefusesContent (unit : Unit) (state : StreamState) (fault : Fault) : Type 0 where
+  pub refusal : Refusal
+  pub content : unit_step state unit.info.code unit.payload ≡ Err refusal
+  pub same : fault ≡ record { unit = unit.index; at = unit.at + refusal.at; cause = refusal.cause }
+
+-- the content of a unit brings this
+abbrev pub HasContent : Result Step Halt → Unit → StreamState → StreamState → Type 0
+HasContent (Ok step) unit state state' =
+    IsTook (Ok step) (unit_step state unit.info.code unit.payload) state state'
+HasContent (Err halt.End) unit state state' = ⊥
+HasContent (Err (halt.Fault fault)) unit state state' = RefusesContent unit state fault × (state' ≡ state)
+HasContent (Err halt.ReadFault) unit state state' = ⊥
+HasContent (Err halt.NoMemory) unit state state' = state' ≡ state
 
 -- from one place of a stream to another, at which the decoder drains or goes on, while these pictures leave
 abbrev pub Brings : CuttingProgress → CuttingProgress → StreamState → StreamState → Option (List ℕ) → Option (List ℕ)
@@ -73,19 +104,23 @@ abbrev pub count_shown : Result Step Halt → ℕ
 count_shown (Ok step) = shown_in step
 count_shown (Err halt) = 0
 
--- the next due picture left, or none is due any more
-abbrev pub SettlesDue : Option Picture → StreamState → StreamState → Bool → Type 0
-SettlesDue (Some p) state state' draining =
-    (units : CuttingProgress) (given given' : ℕ) (stream_end : StreamEnd) (held : Option (List ℕ))
-    → LeadsTo (decoding units state draining given stream_end) (decoding units state' draining given' stream_end)
-    held held (p ∷ [])
-SettlesDue None state state' draining =
-    (units : CuttingProgress) (given given' : ℕ) (stream_end : StreamEnd) (held : Option (List ℕ))
-    → LeadsTo (decoding units state draining given stream_end) (decoding units state' false given' stream_end) held
-    held []
+-- what a decoder makes of what was taken
+abbrev pub turn_by : Result Step Halt → Turn
+turn_by (Ok step.On) = record { answer = None; shown = 0; draining = false; stream_end = stream_end.Going }
+turn_by (Ok (step.Shown p)) =
+    record { answer = Some (next.Shown p); shown = 1; draining = false; stream_end = stream_end.Going }
+turn_by (Ok step.Drains) = record { answer = None; shown = 0; draining = true; stream_end = stream_end.Going }
+turn_by (Err halt.End) = record { answer = None; shown = 0; draining = true; stream_end = stream_end.Ended }
+turn_by (Err (halt.Fault fault)) =
+    record { answer = None; shown = 0; draining = true; stream_end = stream_end.Faulted fault }
+turn_by (Err halt.ReadFault) =
+    record { answer = Some next.ReadFault; shown = 0; draining = false; stream_end = stream_end.Stopped }
+turn_by (Err halt.NoMemory) =
+    record { answer = Some next.NoMemory; shown = 0; draining = false; stream_end = stream_end.Stopped }
 
--- where none is due any more the course is what it was, and else what it was but for the picture that left
-abbrev pub IsSettled : Option Picture → StreamState → StreamState → Bool → Type 0
-IsSettled (Some p) state state' draining = (draining ≡ true) × (emptied state' ≡ emptied state)
-IsSettled None state state' draining =
-    (due_of draining state ≡ []) × (state' ≡ (if draining then emptied state else state))
+-- what is answered once this was met and no picture is due
+abbrev pub answer_by : StreamEnd → Next
+answer_by stream_end.Going = next.Stopped
+answer_by stream_end.Ended = next.End
+answer_by (stream_end.Faulted fault) = next.Fault fault
+answer_by stream_end.Stopped = next.Stopped

@@ -1,13 +1,10 @@
-ghost use Rattle.std.specs.Prelude.{◌≡◌, ℕ, ◌+◌, ◌<◌, ◌≤◌, ◌^◌, false, [], ◌∷◌, length, Err, IfSome, Option};
-ghost use Rattle.std.specs.Option.{option_to_list};
+ghost use Rattle.std.specs.Prelude.{◌≡◌, ℕ, ◌+◌, ◌<◌, ◌≤◌, ◌^◌, [], length, Err, Option};
 ghost use Rattle.std.specs.Io.KnownBytes.{IsAtEnd};
 ghost use Rattle.dirac_io.specs.Faults.{Rose};
 ghost use Rattle.dirac_units.specs.Progress.{TakesPart, TakesSome};
-ghost use Rattle.dirac_refs.specs.Delivery.{flushed};
 ghost use Rattle.dirac_picture.specs.Reading.{ReadsPlanes};
-ghost use Rattle.dirac_decode.specs.Decoding.{due_of};
-ghost use Rattle.dirac_decode.specs.Advancing.{Advances, AdvancesBefore, GoesOn, IsSettled, SettlesDue, count_shown};
-ghost use Rattle.dirac_decode.specs.Advancing.{TakesBy};
+ghost use Rattle.dirac_decode.specs.Advancing.{Advances, AdvancesBefore, FindsUnit, GoesOn, HasContent};
+ghost use Rattle.dirac_decode.specs.Advancing.{TakesBy, count_shown};
 ghost use Rattle.dirac_rebuild.specs.Rebuilding.{Rebuilds};
 
 use crate::state::State;
@@ -19,8 +16,54 @@ use dirac_io::Source;
 use dirac_picture::{CodedPicture, CodedResidual};
 use dirac_refs::RefBuffer;
 use dirac_sequence_header::Sequence;
-use dirac_units::{StreamEnd, UnitStep, Units};
+use dirac_units::{StreamEnd, Unit, UnitStep, Units};
 use std::alloc::Global;
+
+/// The next unit, or what stands in its place.
+fn next_unit<S: Source>(units: &mut Units, source: &mut S) -> Result<Unit, Halt>
+    requires going { units.old.stream_end ≡ StreamEnd.Going }
+    requires no_overflow { units.old.unit_place.at + length units.old.ahead + S.left source.old < 2 ^ 63 }
+    ensures finds { FindsUnit result units.old units.new (S.held source.old) (S.held source.new) }
+    ensures none_ahead { units.new.ahead ≡ [] }
+    ensures index { units.old.unit_place.index ≤ units.new.unit_place.index }
+    ensures fits { units.new.unit_place.index < 2 ^ 64 }
+    ensures read { result ≡ Err Halt.ReadFault → Rose (S.faults source.old) (S.faults source.new) }
+    ensures count { S.faults source.old ≤ S.faults source.new }
+    ensures no_overflow_result { units.new.unit_place.at + length units.new.ahead + S.left source.new
+        ≤ units.old.unit_place.at + length units.old.ahead + S.left source.old }
+{
+    match units.next(source, true) {
+        UnitStep::Unit(unit) => Ok(unit),
+        UnitStep::End => Err(Halt::End),
+        UnitStep::Fault(fault) => Err(Halt::Fault(fault)),
+        UnitStep::ReadFault => Err(Halt::ReadFault),
+        UnitStep::NoMemory => Err(Halt::NoMemory),
+        UnitStep::Stopped => unreachable!(),
+    }
+}
+
+/// What the content of this unit brings.
+fn content_of<
+    P: Fn(Global, &mut BitReader<'_>, Transform, &Sequence) -> Result<CodedResidual, Stop>,
+    F: Fn(Global, &CodedPicture, &Sequence, &RefBuffer) -> Result<Picture, NoMemory>,
+>(planes: &P, make: &F, alloc: Global, unit: Unit, state: &mut State) -> Result<Step, Halt>
+    requires reads { ReadsPlanes (P.pre planes.now) (P.post planes.now) }
+    requires rebuilds { Rebuilds (F.pre make.now) (F.post make.now) }
+    requires below_2_63 { unit.at + 13 + length unit.payload < 2 ^ 63 }
+    ensures brings { HasContent result unit state.old state.new }
+    ensures one_more_at_most { count_shown result + length state.new.waiting ≤ length state.old.waiting + 1 }
+    ensures greatest_never_falls { state.old.most ≤ state.new.most }
+{
+    match state.take(planes, make, alloc, unit.info.code, unit.payload) {
+        Ok(step) => Ok(step),
+        Err(Stop::NoMemory) => Err(Halt::NoMemory),
+        Err(Stop::Refused(refusal)) => Err(Halt::Fault(Fault {
+            unit: unit.index,
+            at: unit.at + refusal.at,
+            cause: refusal.cause,
+        })),
+    }
+}
 
 /// Takes the next unit of a stream.
 pub(crate) fn advance_by_unit<
@@ -57,36 +100,8 @@ pub(crate) fn advance_by_unit<
     ensures no_overflow_result { units.new.unit_place.at + length units.new.ahead + S.left source.new
         ≤ units.old.unit_place.at + length units.old.ahead + S.left source.old }
 {
-    let unit = match units.next(source, true) {
-        UnitStep::Unit(unit) => unit,
-        UnitStep::End => return Err(Halt::End),
-        UnitStep::Fault(fault) => return Err(Halt::Fault(fault)),
-        UnitStep::ReadFault => return Err(Halt::ReadFault),
-        UnitStep::NoMemory => return Err(Halt::NoMemory),
-        UnitStep::Stopped => unreachable!(),
-    };
-    match state.take(planes, make, alloc, unit.info.code, unit.payload) {
-        Ok(step) => Ok(step),
-        Err(Stop::NoMemory) => Err(Halt::NoMemory),
-        Err(Stop::Refused(refusal)) => Err(Halt::Fault(Fault {
-            unit: unit.index,
-            at: unit.at + refusal.at,
-            cause: refusal.cause,
-        })),
+    match next_unit(units, source) {
+        Err(halt) => Err(halt),
+        Ok(unit) => content_of(planes, make, alloc, unit, state),
     }
-}
-
-/// The next picture that is due, where the decoder drains and one waits.
-pub(crate) fn next_due(state: &mut State, draining: bool) -> Option<Picture>
-    ensures settles { SettlesDue result state.old state.new draining }
-    ensures settled { IsSettled result state.old state.new draining }
-    ensures due { IfSome result (λ p. due_of draining state.old ≡ p ∷ flushed state.new.waiting) }
-    ensures fewer { length state.new.waiting + length (option_to_list result) ≤ length state.old.waiting }
-    ensures same { draining ≡ false → state.new ≡ state.old }
-    ensures greatest_stays { state.new.most ≡ state.old.most }
-{
-    if draining {
-        return state.pop();
-    }
-    None
 }

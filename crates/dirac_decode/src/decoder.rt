@@ -7,11 +7,9 @@ ghost use Rattle.dirac_rebuild.specs.Rebuilding.{Rebuilds};
 
 mod stepping;
 
-use crate::advance::{advance_by_unit, next_due};
 use crate::answers::Next;
 use crate::in_turn::{read_in_turn, rebuild_in_turn};
 use crate::state::State;
-use crate::step::{Halt, Step};
 use dirac_bits::BitReader;
 use dirac_common::{NoMemory, Picture, Stop};
 use dirac_content::Tally;
@@ -68,8 +66,15 @@ impl Decoder {
         ensures { result ≡ decoder_begun }
     {
         let mut decoder = Decoder::new(alloc);
-        decoder.state.keep_halves();
+        decoder.keep_halves();
         decoder
+    }
+
+    /// From now on half samples of references are kept, for a call that rebuilds pictures by them.
+    fn keep_halves(&mut self)
+        ensures { self.new ≡ self.old }
+    {
+        self.state.keep_halves();
     }
 
     /// How many pictures were given so far, and the greatest length that the list of references had so far.
@@ -106,7 +111,7 @@ impl Decoder {
         ensures no_overflow { self.new.units.unit_place.at + length self.new.units.ahead + S.left source.new
             ≤ self.old.units.unit_place.at + length self.old.units.ahead + S.left source.old }
     {
-        self.state.keep_halves();
+        self.keep_halves();
         self.next_picture_by(&read_in_turn, &rebuild_in_turn, source)
     }
 
@@ -138,54 +143,9 @@ impl Decoder {
         ensures no_overflow { self.new.units.unit_place.at + length self.new.units.ahead + S.left source.new
             ≤ self.old.units.unit_place.at + length self.old.units.ahead + S.left source.old }
     {
-        if let StreamEnd::Stopped = self.stream_end {
-            return Next::Stopped;
-        }
         'units: loop {
-            match next_due(&mut self.state, self.draining) {
-                None => {}
-                Some(picture) => {
-                    self.given += 1;
-                    return Next::Shown(picture);
-                }
-            }
-            self.draining = false;
-            match self.stream_end {
-                StreamEnd::Going => {}
-                StreamEnd::Ended => return Next::End,
-                StreamEnd::Faulted(fault) => return Next::Fault(fault),
-                StreamEnd::Stopped => return Next::Stopped,
-            }
-            match advance_by_unit(
-                planes,
-                make,
-                self.alloc,
-                &mut self.units,
-                &mut self.state,
-                source,
-            ) {
-                Ok(Step::On) => {}
-                Ok(Step::Shown(picture)) => {
-                    self.given += 1;
-                    return Next::Shown(picture);
-                }
-                Ok(Step::Drains) => self.draining = true,
-                Err(Halt::End) => {
-                    self.draining = true;
-                    self.stream_end = StreamEnd::Ended;
-                }
-                Err(Halt::Fault(fault)) => {
-                    self.draining = true;
-                    self.stream_end = StreamEnd::Faulted(fault);
-                }
-                Err(Halt::ReadFault) => {
-                    self.stream_end = StreamEnd::Stopped;
-                    return Next::ReadFault;
-                }
-                Err(Halt::NoMemory) => {
-                    self.stream_end = StreamEnd::Stopped;
-                    return Next::NoMemory;
-                }
+            if let Some(next) = self.step_by(planes, make, source) {
+                return next;
             }
         }
     }

@@ -5,13 +5,15 @@ ghost use Rattle.dirac_io.specs.Faults.{Rose};
 ghost use Rattle.dirac_picture.specs.Reading.{ReadsPlanes};
 ghost use Rattle.dirac_decode.specs.Decoding.{AnswersWhatWasMet, BreaksOff, StopsIn};
 ghost use Rattle.dirac_rebuild.specs.Rebuilding.{Rebuilds};
-ghost use Rattle.dirac_decode.specs.Stepping.{DueGives, IsThere, StepGives, StepGivesBefore, TakesOne, opened_sequence};
+ghost use Rattle.dirac_decode.specs.Stepping.{DueGives, IsThere, StepGives, StepGivesBefore, TakesAs, TakesOne};
+ghost use Rattle.dirac_decode.specs.Stepping.{opened_sequence};
+ghost use Rattle.dirac_decode.specs.Advancing.{answer_by};
 
-use crate::advance::{advance_by_unit, next_due};
+use crate::advance::advance_by_unit;
 use crate::answers::Next;
 use crate::decoder::Decoder;
 use crate::in_turn::{read_in_turn, rebuild_in_turn};
-use crate::step::{Halt, Step};
+use crate::step::{Turn, turn_of};
 use dirac_bits::BitReader;
 use dirac_common::{NoMemory, Picture, Stop};
 use dirac_header::Transform;
@@ -26,6 +28,14 @@ impl Decoder {
     /// The next picture that is due before a further unit is taken. Nothing is read.
     pub fn due_picture(&mut self) -> Option<Picture>
         ensures { DueGives result self.old self.new }
+    {
+        self.next_due()
+    }
+
+    /// The next picture that is due, and that the pictures given can be counted.
+    fn next_due(&mut self) -> Option<Picture>
+        ensures gives { DueGives result self.old self.new }
+        ensures fits { self.new.given < 2 ^ 64 }
     {
         if !self.draining {
             return None;
@@ -45,6 +55,14 @@ impl Decoder {
     /// Whether units go on, or what was met.
     pub fn stream_end(&self) -> StreamEnd
         ensures { result ≡ self.now.stream_end }
+    {
+        self.stream_end
+    }
+
+    /// Whether units go on, or what was met, and that the pictures given can be counted.
+    fn met(&self) -> StreamEnd
+        ensures value { result ≡ self.now.stream_end }
+        ensures fits { self.now.given < 2 ^ 64 }
     {
         self.stream_end
     }
@@ -80,7 +98,7 @@ impl Decoder {
         ensures no_overflow { self.new.units.unit_place.at + length self.new.units.ahead + S.left source.new
             ≤ self.old.units.unit_place.at + length self.old.units.ahead + S.left source.old }
     {
-        self.state.keep_halves();
+        self.keep_halves();
         self.step_by(&read_in_turn, &rebuild_in_turn, source)
     }
 
@@ -112,58 +130,74 @@ impl Decoder {
         ensures no_overflow { self.new.units.unit_place.at + length self.new.units.ahead + S.left source.new
             ≤ self.old.units.unit_place.at + length self.old.units.ahead + S.left source.old }
     {
-        if let StreamEnd::Stopped = self.stream_end {
+        let met = self.met();
+        if let StreamEnd::Stopped = met {
             return Some(Next::Stopped);
         }
-        match next_due(&mut self.state, self.draining) {
-            None => {}
-            Some(picture) => {
-                self.given += 1;
-                return Some(Next::Shown(picture));
-            }
+        if let Some(picture) = self.next_due() {
+            return Some(Next::Shown(picture));
         }
-        self.draining = false;
-        match self.stream_end {
-            StreamEnd::Going => {}
-            StreamEnd::Ended => return Some(Next::End),
-            StreamEnd::Faulted(fault) => return Some(Next::Fault(fault)),
-            StreamEnd::Stopped => return Some(Next::Stopped),
+        if let StreamEnd::Going = met {
+            return self.take_unit(planes, make, source);
         }
-        match advance_by_unit(
+        Some(answer_behind(met))
+    }
+
+    /// Takes the next unit, where none is due before it.
+    fn take_unit<
+        S: Source,
+        P: Fn(Global, &mut BitReader<'_>, Transform, &Sequence) -> Result<CodedResidual, Stop>,
+        F: Fn(Global, &CodedPicture, &Sequence, &RefBuffer) -> Result<Picture, NoMemory>,
+    >(&mut self, planes: &P, make: &F, source: &mut S) -> Option<Next>
+        requires reads { ReadsPlanes (P.pre planes.now) (P.post planes.now) }
+        requires rebuilds { Rebuilds (F.pre make.now) (F.post make.now) }
+        requires no_overflow { self.old.units.unit_place.at + length self.old.units.ahead + S.left source.old < 2 ^ 63 }
+        requires going { self.old.stream_end ≡ StreamEnd.Going }
+        requires none_due { self.old.due ≡ [] }
+        ensures gives { StepGives result self.old self.new (S.held source.old) (S.held source.new) }
+        ensures takes { TakesAs self.new.stream_end result self.old self.new (S.held source.old) (S.held source.new) }
+        ensures before_more { IsThere self.old.units (S.held source.old)
+            → StepGivesBefore result self.old self.new (S.held source.old) (S.held source.new) }
+        ensures whole { self.new.stream_end ≡ StreamEnd.Ended → IsAtEnd (S.held source.new) }
+        ensures broken_off { result ≡ Some Next.ReadFault → BreaksOff self.old (S.held source.old)
+            (S.held source.new) }
+        ensures stops { result ≡ Some Next.NoMemory → StopsIn self.old (S.held source.old) (S.held source.new) }
+        ensures none_ahead { self.new.units.ahead ≡ [] }
+        ensures read { result ≡ Some Next.ReadFault → Rose (S.faults source.old) (S.faults source.new) }
+        ensures count { S.faults source.old ≤ S.faults source.new }
+        ensures fits { self.new.given < 2 ^ 64 }
+        ensures greatest { self.old.state.most ≤ self.new.state.most }
+        ensures no_overflow { self.new.units.unit_place.at + length self.new.units.ahead + S.left source.new
+            ≤ self.old.units.unit_place.at + length self.old.units.ahead + S.left source.old }
+    {
+        let taken = advance_by_unit(
             planes,
             make,
             self.alloc,
             &mut self.units,
             &mut self.state,
             source,
-        ) {
-            Ok(Step::On) => None,
-            Ok(Step::Shown(picture)) => {
-                self.given += 1;
-                Some(Next::Shown(picture))
-            }
-            Ok(Step::Drains) => {
-                self.draining = true;
-                None
-            }
-            Err(Halt::End) => {
-                self.draining = true;
-                self.stream_end = StreamEnd::Ended;
-                None
-            }
-            Err(Halt::Fault(fault)) => {
-                self.draining = true;
-                self.stream_end = StreamEnd::Faulted(fault);
-                None
-            }
-            Err(Halt::ReadFault) => {
-                self.stream_end = StreamEnd::Stopped;
-                Some(Next::ReadFault)
-            }
-            Err(Halt::NoMemory) => {
-                self.stream_end = StreamEnd::Stopped;
-                Some(Next::NoMemory)
-            }
-        }
+        );
+        let Turn {
+            answer,
+            shown,
+            draining,
+            stream_end,
+        } = turn_of(taken);
+        self.given += shown;
+        self.draining = draining;
+        self.stream_end = stream_end;
+        answer
+    }
+}
+
+/// What is answered once this was met and no picture is due.
+fn answer_behind(met: StreamEnd) -> Next
+    ensures { result ≡ answer_by met }
+{
+    match met {
+        StreamEnd::Ended => Next::End,
+        StreamEnd::Faulted(fault) => Next::Fault(fault),
+        StreamEnd::Going | StreamEnd::Stopped => Next::Stopped,
     }
 }

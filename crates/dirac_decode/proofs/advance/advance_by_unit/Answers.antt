@@ -1,75 +1,71 @@
-use Rattle.std.proofs.Common.{Err, refl, subst}
-use Rattle.dirac_common.specs.declared.faults.Stop.{Stop}
-use Rattle.dirac_content.specs.StreamState.{unit_step}
-use Rattle.dirac_decode.specs.Taking.{IsTook}
-use Rattle.dirac_decode.proofs.Leading.{brings_end, brings_fault, brings_refused, brings_step}
-use Rattle.std.specs.Io.KnownBytes.{append_known, prepend_known}
+use Rattle.std.proofs.Common.{◌∙◌, ap, arith, refl, Err}
+use Rattle.std.specs.Io.KnownBytes.{prepend_known}
 use Rattle.dirac_units.specs.Info.{span_of}
-use Rattle.dirac_decode.proofs.Alone.{unit_taken}
-use Rattle.dirac_decode.proofs.Following.{brings_end_more, brings_fault_more, unit_more}
 use Rattle.dirac_content.proofs.Passing.{each_has_a_cut}
-use Rattle.dirac_decode.proofs.Stepped.{takes_fault, takes_refused, takes_unit}
+use Rattle.dirac_decode.specs.declared.step.Halt.TheVariants as halt
+use Rattle.dirac_decode.proofs.Alone.{unit_taken}
+use Rattle.dirac_decode.proofs.Found.{content_advances, content_advances_before, content_goes_on, content_no_end, content_no_read, content_takes, halt_advances, halt_advances_before, halt_part, halt_same, halt_taken, halt_takes, halt_whole, next_at, next_index}
 use Rattle.dirac_decode.proofs.advance.advance_by_unit.Goals as goal
 
-pub returns-in-End-clause-advances : goal.returns-in-End-clause-advances
-returns-in-End-clause-advances g c =
-    brings_end c.args.units.now c.next.new.self c.args.state.now (g.S.Source.held c.args.source.now) (g.S.Source.held c.next.new.source) c.next.ensures.none_ahead
-    (c.next.ensures.end c.requires.going c.in-End.is)
+pub content_of-requires-clause-below_2_63 : goal.content_of-requires-clause-below_2_63
+content_of-requires-clause-below_2_63 g c =
+    let held = g.S.Source.held c.args.source.now in
+    let held' = g.S.Source.held c.next_unit.new.source in
+    omega (arith, c.requires.no_overflow, c.next_unit.ensures.no_overflow_result, next_at c.in-Ok.unit c.args.units.now c.next_unit.new.units held held' c.in-Ok.ensures.finds.0)
 
-pub returns-in-Fault-clause-advances : goal.returns-in-Fault-clause-advances
-returns-in-Fault-clause-advances g c =
-    brings_fault c.args.units.now c.next.new.self c.args.state.now (g.S.Source.held c.args.source.now) (g.S.Source.held c.next.new.source) c.in-Fault.fault c.next.ensures.none_ahead
-    (c.next.ensures.fault c.in-Fault.fault c.requires.going c.in-Fault.is)
+pub returns-in-Err : goal.returns-in-Err
+returns-in-Err g c =
+    let units = c.args.units.now in
+    let units' = c.next_unit.new.units in
+    let state = c.args.state.now in
+    let held = g.S.Source.held c.args.source.now in
+    let held' = g.S.Source.held c.next_unit.new.source in
+    let found = c.next_unit.ensures in
+    let finds = c.in-Err.ensures.finds in
+    let h = c.in-Err.halt in
+    record {
+      advances = halt_advances h units units' state held held' found.none_ahead finds;
+      advances_before_more = halt_advances_before h units units' state held held' found.none_ahead finds;
+      takes = halt_takes h units units' state held held' finds;
+      none_ahead = found.none_ahead;
+      goes_on = tt;
+      no_more_than_units = omega (arith, found.index);
+      fits = found.fits;
+      greatest_never_falls = omega arith;
+      whole = λ is. halt_whole h units units' held held' finds (halt_same (Err h) (Err halt.End) h halt.End refl refl is);
+      part = λ is. halt_part h units units' held held' finds (halt_same (Err h) (Err halt.ReadFault) h halt.ReadFault refl refl is);
+      taken = λ is. halt_taken h units units' held held' finds (halt_same (Err h) (Err halt.NoMemory) h halt.NoMemory refl refl is);
+      read = λ is. found.read (c.in-Err.is ∙ ap Err (halt_same (Err h) (Err halt.ReadFault) h halt.ReadFault refl refl is));
+      count = found.count;
+      no_overflow_result = found.no_overflow_result;
+    }
 
-pub returns-in-Ok-clause-advances : goal.returns-in-Ok-clause-advances
-returns-in-Ok-clause-advances g c =
-    brings_step c.in-Ok.step c.in-Unit.unit c.args.units.now c.next.new.self c.args.state.now c.take.new.self (g.S.Source.held c.args.source.now) (g.S.Source.held c.next.new.source)
-    c.in-Unit.ensures.unit c.in-Ok.ensures.took
-
-pub returns-in-Err-Refused-clause-advances : goal.returns-in-Err-Refused-clause-advances
-returns-in-Err-Refused-clause-advances g c =
-    brings_refused c.in-Unit.unit c.args.units.now c.next.new.self c.args.state.now c.take.new.self (g.S.Source.held c.args.source.now) (g.S.Source.held c.next.new.source) c.in-Err-Refused.refusal c.in-Unit.unit.index c.in-Unit.unit.at
-    each_has_a_cut c.in-Unit.ensures.unit (subst (λ (s : Stop). IsTook (Err s) (unit_step c.args.state.now c.in-Unit.unit.info.code c.in-Unit.unit.payload) c.args.state.now c.take.new.self) c.in-Err-Refused.field-0-is c.in-Err-Refused.ensures.took) c.in-Unit.ensures.unit.index c.in-Unit.ensures.unit.at
-
-pub returns-in-End-clause-advances_before_more : goal.returns-in-End-clause-advances_before_more
-returns-in-End-clause-advances_before_more g c = λ there more.
-    brings_end_more c.args.units.now c.next.new.self c.args.state.now (g.S.Source.held c.args.source.now) (g.S.Source.held c.next.new.source) more c.next.ensures.none_ahead there
-    (c.next.ensures.end c.requires.going c.in-End.is)
-
-pub returns-in-Fault-clause-advances_before_more : goal.returns-in-Fault-clause-advances_before_more
-returns-in-Fault-clause-advances_before_more g c = λ there more.
-    brings_fault_more c.args.units.now c.next.new.self c.args.state.now (g.S.Source.held c.args.source.now) (g.S.Source.held c.next.new.source) more c.in-Fault.fault c.next.ensures.none_ahead there
-    (c.next.ensures.fault c.in-Fault.fault c.requires.going c.in-Fault.is)
-
-pub returns-in-Ok-clause-advances_before_more : goal.returns-in-Ok-clause-advances_before_more
-returns-in-Ok-clause-advances_before_more g c = λ there more.
-    brings_step c.in-Ok.step c.in-Unit.unit c.args.units.now c.next.new.self c.args.state.now c.take.new.self (append_known (g.S.Source.held c.args.source.now) more) (append_known (g.S.Source.held c.next.new.source) more)
-    (unit_more c.in-Unit.unit c.args.units.now c.next.new.self (g.S.Source.held c.args.source.now) (g.S.Source.held c.next.new.source) more c.in-Unit.ensures.unit) c.in-Ok.ensures.took
-
-pub returns-in-Err-Refused-clause-advances_before_more : goal.returns-in-Err-Refused-clause-advances_before_more
-returns-in-Err-Refused-clause-advances_before_more g c = λ there more.
-    brings_refused c.in-Unit.unit c.args.units.now c.next.new.self c.args.state.now c.take.new.self (append_known (g.S.Source.held c.args.source.now) more) (append_known (g.S.Source.held c.next.new.source) more) c.in-Err-Refused.refusal c.in-Unit.unit.index c.in-Unit.unit.at
-    each_has_a_cut (unit_more c.in-Unit.unit c.args.units.now c.next.new.self (g.S.Source.held c.args.source.now) (g.S.Source.held c.next.new.source) more c.in-Unit.ensures.unit)
-    (subst (λ (s : Stop). IsTook (Err s) (unit_step c.args.state.now c.in-Unit.unit.info.code c.in-Unit.unit.payload) c.args.state.now c.take.new.self) c.in-Err-Refused.field-0-is c.in-Err-Refused.ensures.took) c.in-Unit.ensures.unit.index c.in-Unit.ensures.unit.at
-
-pub returns-in-Err-NoMemory-clause-taken : goal.returns-in-Err-NoMemory-clause-taken
-returns-in-Err-NoMemory-clause-taken g c = λ e.
-    unit_taken (prepend_known c.args.units.now.ahead (g.S.Source.held c.args.source.now)) (g.S.Source.held c.next.new.source) (span_of c.in-Unit.unit.info) c.in-Unit.ensures.rest
-
-pub returns-in-End-clause-takes : goal.returns-in-End-clause-takes
-returns-in-End-clause-takes g c = (refl, (c.next.ensures.end c.requires.going c.in-End.is).told)
-
-pub returns-in-Fault-clause-takes : goal.returns-in-Fault-clause-takes
-returns-in-Fault-clause-takes g c =
-    takes_fault c.args.units.now c.next.new.self c.args.state.now (g.S.Source.held c.args.source.now) (g.S.Source.held c.next.new.source) c.in-Fault.fault
-    (c.next.ensures.fault c.in-Fault.fault c.requires.going c.in-Fault.is).told
-
-pub returns-in-Ok-clause-takes : goal.returns-in-Ok-clause-takes
-returns-in-Ok-clause-takes g c =
-    takes_unit c.in-Ok.step c.in-Unit.unit c.args.units.now c.next.new.self c.args.state.now c.take.new.self (g.S.Source.held c.args.source.now) (g.S.Source.held c.next.new.source)
-    c.in-Unit.ensures.unit c.in-Ok.ensures.took
-
-pub returns-in-Err-Refused-clause-takes : goal.returns-in-Err-Refused-clause-takes
-returns-in-Err-Refused-clause-takes g c =
-    takes_refused c.in-Unit.unit c.args.units.now c.next.new.self c.args.state.now c.take.new.self (g.S.Source.held c.args.source.now) (g.S.Source.held c.next.new.source) c.in-Err-Refused.refusal c.in-Unit.unit.index c.in-Unit.unit.at
-    c.in-Unit.ensures.unit (subst (λ (s : Stop). IsTook (Err s) (unit_step c.args.state.now c.in-Unit.unit.info.code c.in-Unit.unit.payload) c.args.state.now c.take.new.self) c.in-Err-Refused.field-0-is c.in-Err-Refused.ensures.took) c.in-Unit.ensures.unit.index c.in-Unit.ensures.unit.at
+pub returns-in-Ok : goal.returns-in-Ok
+returns-in-Ok g c =
+    let units = c.args.units.now in
+    let units' = c.next_unit.new.units in
+    let state = c.args.state.now in
+    let state' = c.content_of.new.state in
+    let held = g.S.Source.held c.args.source.now in
+    let held' = g.S.Source.held c.next_unit.new.source in
+    let found = c.next_unit.ensures in
+    let unit = c.in-Ok.unit in
+    let gives = c.in-Ok.ensures.finds.0 in
+    let answer = c.content_of.result in
+    let has = c.content_of.ensures.brings in
+    record {
+      advances = content_advances answer unit units units' state state' held held' each_has_a_cut gives has;
+      advances_before_more = content_advances_before answer unit units units' state state' held held' each_has_a_cut gives has;
+      takes = content_takes answer unit units units' state state' held held' gives has;
+      none_ahead = found.none_ahead;
+      goes_on = content_goes_on answer unit units units' held held' gives c.in-Ok.ensures.finds.2;
+      no_more_than_units = omega (arith, next_index unit units units' held held' gives, c.content_of.ensures.one_more_at_most);
+      fits = found.fits;
+      greatest_never_falls = c.content_of.ensures.greatest_never_falls;
+      whole = λ is. absurd (content_no_end answer unit state state' has is);
+      part = λ is. absurd (content_no_read answer unit state state' has is);
+      taken = λ is. unit_taken (prepend_known units.ahead held) held' (span_of unit.info) c.in-Ok.ensures.finds.1;
+      read = λ is. absurd (content_no_read answer unit state state' has is);
+      count = found.count;
+      no_overflow_result = found.no_overflow_result;
+    }

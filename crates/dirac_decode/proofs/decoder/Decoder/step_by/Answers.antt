@@ -1,307 +1,129 @@
-use Rattle.std.proofs.Common.{◌≡◌, ◌+◌, ◌∙◌, ap, arith, false, true, length, refl, subst, sym, [], ◌∷◌, None, Some, Ok, Err}
+use Rattle.std.proofs.Common.{◌≡◌, ◌∙◌, ℕ, List, Option, ap, arith, refl, subst, sym, None, Some}
 use Rattle.std.specs.Io.KnownBytes.{append_known}
 use Rattle.dirac_units.specs.declared.unit.StreamEnd.TheVariants as stream_end
-use Rattle.dirac_units.specs.Progress.{CuttingProgress}
 use Rattle.dirac_decode.specs.declared.answers.Next.TheVariants as next
-use Rattle.dirac_decode.specs.declared.step.Halt.{Halt}
-use Rattle.dirac_decode.specs.declared.step.Step.{Step}
-use Rattle.dirac_decode.specs.declared.step.Step.TheVariants as step
-use Rattle.dirac_decode.specs.Advancing.{Advances, TakesBy}
-use Rattle.dirac_decode.specs.Decoding.{Decoding, decoding}
-use Rattle.dirac_decode.specs.Stepping.{IsThere, TakesOne}
-use Rattle.dirac_decode.specs.Taking.{shown_in}
-use Rattle.dirac_decode.proofs.Leading.{most_of, answers_any, breaks_off, leads_going, leads_on, leads_same, leads_unit, not_ended, not_faulted, stops_in}
-use Rattle.dirac_decode.proofs.Stepped.{one_due, one_end, one_fault, one_met, one_stop, one_stopped, one_unit}
+use Rattle.dirac_decode.specs.Decoding.{AnswersWhatWasMet, BreaksOff, Decoding, Gives, StopsIn}
+use Rattle.dirac_decode.specs.Advancing.{answer_by}
+use Rattle.dirac_decode.specs.Stepping.{IsThere, StepGives, StepGivesBefore, TakesOne}
+use Rattle.dirac_decode.proofs.Turning.{answers_met, answers_shown, due_given, due_stays, gives_met, leads_due, met_no_memory, met_no_read, none_due, one_due, one_met, one_stopped, one_unit, repeats_any}
 use Rattle.dirac_decode.proofs.decoder.Decoder.step_by.Goals as goal
 
-pub returns-in-Ok-Shown : goal.returns-in-Ok-Shown
-returns-in-Ok-Shown g c =
+pub returns-in-Stopped : goal.returns-in-Stopped
+returns-in-Stopped g c =
     let a = c.args.self.now in
-    let held = g.S.Source.held c.args.source.now in
-    let held' = g.S.Source.held c.advance_by_unit.new.source in
-    let here = decoding c.self.inside.units c.self.inside.state c.self.inside.draining c.self.inside.given c.self.inside.stream_end in
-    let before : a.stream_end ≡ stream_end.Going = sym (ap (λ (d : Decoding). d.stream_end) c.self.view_is) ∙ c.in-Going.is in
-    let given = ap (λ (d : Decoding). d.given + 1) c.self.view_is in
-    let stopped = λ (e : c.self.inside.stream_end ≡ stream_end.Stopped). sym (ap (λ (d : Decoding). d.stream_end) c.self.view_is) ∙ e in
+    let stopped : a.stream_end ≡ stream_end.Stopped = sym c.met-met.ensures.value ∙ c.in-Stopped.is in
     record {
-      gives = (
-        leads_going a c.self.inside.units c.advance_by_unit.new.units c.self.inside.state c.next_due.new.state c.advance_by_unit.new.state
-            c.self.inside.draining false c.self.inside.given (c.self.inside.given + 1) c.self.inside.stream_end
-            held held held' (c.in-Ok-Shown.picture ∷ []) (leads_same a here held c.self.view_is) c.in-None.ensures.settles c.in-Going.is
-            (subst (λ (s : Step). Advances (Ok s) c.self.inside.units c.advance_by_unit.new.units c.next_due.new.state c.advance_by_unit.new.state held held') c.in-Ok-Shown.field-0-is c.in-Ok-Shown.ensures.advances),
-        given,
-        stopped,
-      );
-      at_most_one_unit = subst (λ (d : Decoding). TakesOne (Some (next.Shown c.in-Ok-Shown.picture)) d (decoding c.advance_by_unit.new.units c.advance_by_unit.new.state false (c.self.inside.given + 1) c.self.inside.stream_end) (g.S.Source.held c.args.source.now) (g.S.Source.held c.advance_by_unit.new.source)) c.self.view_is
-          (one_unit (step.Shown c.in-Ok-Shown.picture) c.self.inside.units c.advance_by_unit.new.units c.self.inside.state c.next_due.new.state c.advance_by_unit.new.state c.self.inside.draining c.self.inside.given (c.self.inside.given + 1) c.self.inside.stream_end (g.S.Source.held c.args.source.now) (g.S.Source.held c.advance_by_unit.new.source) c.in-None.ensures.settled c.in-Going.is (subst (λ (x : Step). TakesBy (Ok x) c.self.inside.units c.advance_by_unit.new.units c.next_due.new.state c.advance_by_unit.new.state (g.S.Source.held c.args.source.now) (g.S.Source.held c.advance_by_unit.new.source)) c.in-Ok-Shown.field-0-is c.in-Ok-Shown.ensures.takes));
-      before_more = λ there more. (
-        leads_going a c.self.inside.units c.advance_by_unit.new.units c.self.inside.state c.next_due.new.state c.advance_by_unit.new.state
-            c.self.inside.draining false c.self.inside.given (c.self.inside.given + 1) c.self.inside.stream_end
-            (append_known held more) (append_known held more) (append_known held' more) (c.in-Ok-Shown.picture ∷ []) (leads_same a here (append_known held more) c.self.view_is) c.in-None.ensures.settles c.in-Going.is
-            (subst (λ (s : Step). Advances (Ok s) c.self.inside.units c.advance_by_unit.new.units c.next_due.new.state c.advance_by_unit.new.state (append_known held more) (append_known held' more)) c.in-Ok-Shown.field-0-is
-            (c.in-Ok-Shown.ensures.advances_before_more (subst (λ (u : CuttingProgress). IsThere u held) (sym (ap (λ (d : Decoding). d.units) c.self.view_is)) there) more)),
-        given,
-        stopped,
-      );
-      repeated = answers_any a.stream_end a.due _ before;
-      repeats_without_reading = λ ne. absurd (ne before);
-      whole = λ w e. cc;
-      broken_off = λ e. cc;
-      stops = λ e. cc;
-      none_ahead = λ none. c.in-Ok-Shown.ensures.none_ahead;
-      read = λ e. cc;
-      count = c.in-Ok-Shown.ensures.count;
-      fits = omega (arith, c.self.invariant.0, c.in-None.ensures.fewer, c.in-Ok-Shown.ensures.no_more_than_units, ap shown_in c.in-Ok-Shown.field-0-is, c.in-Ok-Shown.ensures.fits);
-      greatest = omega (arith, ap (λ (d : Decoding). d.state.most) c.self.view_is, most_of c.self.inside.draining c.self.inside.state, c.in-None.ensures.greatest_stays, c.in-Ok-Shown.ensures.greatest_never_falls);
-      no_overflow = omega (arith, ap (λ (d : Decoding). d.units.unit_place.at + length d.units.ahead) c.self.view_is, c.in-Ok-Shown.ensures.no_overflow_result);
+      gives = (stopped, refl);
+      at_most_one_unit = one_stopped a (g.S.Source.held c.args.source.now) stopped;
+      before_more = λ there more. (stopped, refl);
+      repeated = subst (λ n. AnswersWhatWasMet a.stream_end a.due n) (ap answer_by stopped) (answers_met a.stream_end a.due);
+      repeats_without_reading = λ ne. refl;
+      whole = λ at_end is. at_end is;
+      broken_off = λ is. cc;
+      stops = λ is. cc;
+      none_ahead = λ none. none;
+      read = λ is. cc;
+      count = omega arith;
+      fits = c.met-met.ensures.fits;
+      greatest = omega arith;
+      no_overflow = omega arith;
     }
 
-pub returns-in-Some-clause-gives : goal.returns-in-Some-clause-gives
-returns-in-Some-clause-gives g c =
+pub returns-in-Some : goal.returns-in-Some
+returns-in-Some g c =
     let a = c.args.self.now in
+    let d = c.next_due.new.self in
+    let p = c.in-Some.picture in
+    let due = c.in-Some.ensures.gives in
     let held = g.S.Source.held c.args.source.now in
-    let here = decoding c.self.inside.units c.self.inside.state c.self.inside.draining c.self.inside.given c.self.inside.stream_end in (
-      leads_on a here (decoding c.self.inside.units c.next_due.new.state c.self.inside.draining (c.self.inside.given + 1) c.self.inside.stream_end) held held held (c.in-Some.picture ∷ [])
-          (leads_same a here held c.self.view_is) (c.in-Some.ensures.settles c.self.inside.units c.self.inside.given (c.self.inside.given + 1) c.self.inside.stream_end held),
-      ap (λ (d : Decoding). d.given + 1) c.self.view_is,
-      λ (e : c.self.inside.stream_end ≡ stream_end.Stopped). sym (ap (λ (d : Decoding). d.stream_end) c.self.view_is) ∙ e,
-    )
+    let moving : a.stream_end ≡ stream_end.Stopped → ⊥ = λ e. c.in_default.not-Stopped (c.met-met.ensures.value ∙ e) in
+    let stays = due_stays (Some p) a d due in
+    record {
+      gives = (leads_due p a d held due, due_given p a d due, λ is. sym stays.stream_end ∙ is);
+      at_most_one_unit = one_due p a d held due;
+      before_more = λ there more. (leads_due p a d (append_known held more) due, due_given p a d due, λ is. sym stays.stream_end ∙ is);
+      repeated = answers_shown a.stream_end a.due p d.due moving due.0;
+      repeats_without_reading = λ ne. refl;
+      whole = λ at_end is. at_end (sym stays.stream_end ∙ is);
+      broken_off = λ is. cc;
+      stops = λ is. cc;
+      none_ahead = λ none. stays.ahead ∙ none;
+      read = λ is. cc;
+      count = omega arith;
+      fits = c.next_due.ensures.fits;
+      greatest = omega (arith, stays.most);
+      no_overflow = omega (arith, stays.place);
+    }
 
-pub returns-in-Some-clause-before_more : goal.returns-in-Some-clause-before_more
-returns-in-Some-clause-before_more g c =
+pub take_unit-requires-clause-no_overflow : goal.take_unit-requires-clause-no_overflow
+take_unit-requires-clause-no_overflow g c =
+    let stays = due_stays None c.args.self.now c.next_due.new.self c.in_default-next_due.ensures.gives in
+    omega (arith, c.requires.no_overflow, stays.place)
+
+pub take_unit-requires-clause-going : goal.take_unit-requires-clause-going
+take_unit-requires-clause-going g c =
+    let stays = due_stays None c.args.self.now c.next_due.new.self c.in_default-next_due.ensures.gives in
+    stays.stream_end ∙ sym c.met-met.ensures.value ∙ c.in-Going.is
+
+pub take_unit-requires-clause-none_due : goal.take_unit-requires-clause-none_due
+take_unit-requires-clause-none_due g c =
+    none_due c.args.self.now c.next_due.new.self c.in_default-next_due.ensures.gives
+
+pub returns-in-Going : goal.returns-in-Going
+returns-in-Going g c =
     let a = c.args.self.now in
+    let b = c.next_due.new.self in
+    let d = c.take_unit.new.self in
+    let answer = c.take_unit.result in
     let held = g.S.Source.held c.args.source.now in
-    let here = decoding c.self.inside.units c.self.inside.state c.self.inside.draining c.self.inside.given c.self.inside.stream_end in
-    λ there more. (
-      leads_on a here (decoding c.self.inside.units c.next_due.new.state c.self.inside.draining (c.self.inside.given + 1) c.self.inside.stream_end) (append_known held more) (append_known held more) (append_known held more) (c.in-Some.picture ∷ [])
-          (leads_same a here (append_known held more) c.self.view_is) (c.in-Some.ensures.settles c.self.inside.units c.self.inside.given (c.self.inside.given + 1) c.self.inside.stream_end (append_known held more)),
-      ap (λ (d : Decoding). d.given + 1) c.self.view_is,
-      λ (e : c.self.inside.stream_end ≡ stream_end.Stopped). sym (ap (λ (d : Decoding). d.stream_end) c.self.view_is) ∙ e,
-    )
+    let held' = g.S.Source.held c.take_unit.new.source in
+    let due = c.in_default-next_due.ensures.gives in
+    let taken = c.take_unit.ensures in
+    let stays = due_stays None a b due in
+    let going : a.stream_end ≡ stream_end.Going = sym c.met-met.ensures.value ∙ c.in-Going.is in
+    record {
+      gives = subst (λ (x : Decoding). StepGives answer x d held held') due.1 taken.gives;
+      at_most_one_unit = subst (λ (x : Decoding). TakesOne answer x d held held') due.1
+          (one_unit answer b d held held' (none_due a b due) (stays.stream_end ∙ going) taken.takes);
+      before_more = subst (λ (x : Decoding). IsThere x.units held → StepGivesBefore answer x d held held') due.1 taken.before_more;
+      repeated = repeats_any a.stream_end a.due answer going;
+      repeats_without_reading = λ ne. absurd (ne going);
+      whole = λ at_end. taken.whole;
+      broken_off = λ is. subst (λ (x : Decoding). BreaksOff x held held') due.1 (taken.broken_off is);
+      stops = λ is. subst (λ (x : Decoding). StopsIn x held held') due.1 (taken.stops is);
+      none_ahead = λ none. taken.none_ahead;
+      read = taken.read;
+      count = taken.count;
+      fits = taken.fits;
+      greatest = omega (arith, stays.most, taken.greatest);
+      no_overflow = omega (arith, stays.place, taken.no_overflow);
+    }
 
-pub returns-in-Ended-clause-gives : goal.returns-in-Ended-clause-gives
-returns-in-Ended-clause-gives g c =
+pub returns : goal.returns
+returns g c =
     let a = c.args.self.now in
+    let d = c.next_due.new.self in
+    let answer = c.answer_behind.result in
+    let stays = due_stays None a d c.in_default-next_due.ensures.gives in
     let held = g.S.Source.held c.args.source.now in
-    let here = decoding c.self.inside.units c.self.inside.state c.self.inside.draining c.self.inside.given c.self.inside.stream_end in (
-      leads_on a here (decoding c.self.inside.units c.next_due.new.state false c.self.inside.given c.self.inside.stream_end) held held held []
-          (leads_same a here held c.self.view_is) (c.in-None.ensures.settles c.self.inside.units c.self.inside.given c.self.inside.given c.self.inside.stream_end held),
-      c.in-Ended.is,
-      refl,
-      ap (λ (d : Decoding). d.given) c.self.view_is,
-    )
-
-pub returns-in-Ended-clause-before_more : goal.returns-in-Ended-clause-before_more
-returns-in-Ended-clause-before_more g c =
-    let a = c.args.self.now in
-    let held = g.S.Source.held c.args.source.now in
-    let here = decoding c.self.inside.units c.self.inside.state c.self.inside.draining c.self.inside.given c.self.inside.stream_end in
-    λ there more. (
-      leads_on a here (decoding c.self.inside.units c.next_due.new.state false c.self.inside.given c.self.inside.stream_end) (append_known held more) (append_known held more) (append_known held more) []
-          (leads_same a here (append_known held more) c.self.view_is) (c.in-None.ensures.settles c.self.inside.units c.self.inside.given c.self.inside.given c.self.inside.stream_end (append_known held more)),
-      c.in-Ended.is,
-      refl,
-      ap (λ (d : Decoding). d.given) c.self.view_is,
-    )
-
-pub returns-in-Faulted-clause-gives : goal.returns-in-Faulted-clause-gives
-returns-in-Faulted-clause-gives g c =
-    let a = c.args.self.now in
-    let held = g.S.Source.held c.args.source.now in
-    let here = decoding c.self.inside.units c.self.inside.state c.self.inside.draining c.self.inside.given c.self.inside.stream_end in (
-      leads_on a here (decoding c.self.inside.units c.next_due.new.state false c.self.inside.given c.self.inside.stream_end) held held held []
-          (leads_same a here held c.self.view_is) (c.in-None.ensures.settles c.self.inside.units c.self.inside.given c.self.inside.given c.self.inside.stream_end held),
-      c.in-Faulted.is,
-      refl,
-      ap (λ (d : Decoding). d.given) c.self.view_is,
-    )
-
-pub returns-in-Faulted-clause-before_more : goal.returns-in-Faulted-clause-before_more
-returns-in-Faulted-clause-before_more g c =
-    let a = c.args.self.now in
-    let held = g.S.Source.held c.args.source.now in
-    let here = decoding c.self.inside.units c.self.inside.state c.self.inside.draining c.self.inside.given c.self.inside.stream_end in
-    λ there more. (
-      leads_on a here (decoding c.self.inside.units c.next_due.new.state false c.self.inside.given c.self.inside.stream_end) (append_known held more) (append_known held more) (append_known held more) []
-          (leads_same a here (append_known held more) c.self.view_is) (c.in-None.ensures.settles c.self.inside.units c.self.inside.given c.self.inside.given c.self.inside.stream_end (append_known held more)),
-      c.in-Faulted.is,
-      refl,
-      ap (λ (d : Decoding). d.given) c.self.view_is,
-    )
-
-pub returns-in-Ok-On-clause-gives : goal.returns-in-Ok-On-clause-gives
-returns-in-Ok-On-clause-gives g c =
-    let a = c.args.self.now in
-    let held = g.S.Source.held c.args.source.now in
-    let here = decoding c.self.inside.units c.self.inside.state c.self.inside.draining c.self.inside.given c.self.inside.stream_end in (
-      leads_going a c.self.inside.units c.advance_by_unit.new.units c.self.inside.state c.next_due.new.state c.advance_by_unit.new.state c.self.inside.draining false c.self.inside.given c.self.inside.given c.self.inside.stream_end
-          held held (g.S.Source.held c.advance_by_unit.new.source) [] (leads_same a here held c.self.view_is) c.in-None.ensures.settles c.in-Going.is
-          (subst (λ (s : Step). Advances (Ok s) c.self.inside.units c.advance_by_unit.new.units c.next_due.new.state c.advance_by_unit.new.state held (g.S.Source.held c.advance_by_unit.new.source)) c.in-Ok-On.field-0-is c.in-Ok-On.ensures.advances),
-      (sym (ap (λ (d : Decoding). d.stream_end) c.self.view_is) ∙ c.in-Going.is),
-      λ (e : c.self.inside.stream_end ≡ stream_end.Stopped). let both : stream_end.Going ≡ stream_end.Stopped = sym c.in-Going.is ∙ e in cc,
-      ap (λ (d : Decoding). d.given) c.self.view_is,
-      λ (e : c.self.inside.stream_end ≡ stream_end.Going). omega (arith, ap (λ (d : Decoding). d.units.unit_place.at) c.self.view_is, c.in-Ok-On.ensures.goes_on.1),
-    )
-
-pub returns-in-Ok-On-clause-before_more : goal.returns-in-Ok-On-clause-before_more
-returns-in-Ok-On-clause-before_more g c =
-    let a = c.args.self.now in
-    let held = g.S.Source.held c.args.source.now in
-    let here = decoding c.self.inside.units c.self.inside.state c.self.inside.draining c.self.inside.given c.self.inside.stream_end in
-    λ there more. (
-      leads_going a c.self.inside.units c.advance_by_unit.new.units c.self.inside.state c.next_due.new.state c.advance_by_unit.new.state c.self.inside.draining false c.self.inside.given c.self.inside.given c.self.inside.stream_end
-          (append_known held more) (append_known held more) (append_known (g.S.Source.held c.advance_by_unit.new.source) more) [] (leads_same a here (append_known held more) c.self.view_is) c.in-None.ensures.settles c.in-Going.is
-          (subst (λ (s : Step). Advances (Ok s) c.self.inside.units c.advance_by_unit.new.units c.next_due.new.state c.advance_by_unit.new.state (append_known held more) (append_known (g.S.Source.held c.advance_by_unit.new.source) more)) c.in-Ok-On.field-0-is
-          (c.in-Ok-On.ensures.advances_before_more (subst (λ (u : CuttingProgress). IsThere u held) (sym (ap (λ (d : Decoding). d.units) c.self.view_is)) there) more)),
-      (sym (ap (λ (d : Decoding). d.stream_end) c.self.view_is) ∙ c.in-Going.is),
-      λ (e : c.self.inside.stream_end ≡ stream_end.Stopped). let both : stream_end.Going ≡ stream_end.Stopped = sym c.in-Going.is ∙ e in cc,
-      ap (λ (d : Decoding). d.given) c.self.view_is,
-      λ (e : c.self.inside.stream_end ≡ stream_end.Going). omega (arith, ap (λ (d : Decoding). d.units.unit_place.at) c.self.view_is, c.in-Ok-On.ensures.goes_on.1),
-    )
-
-pub returns-in-Ok-Drains-clause-gives : goal.returns-in-Ok-Drains-clause-gives
-returns-in-Ok-Drains-clause-gives g c =
-    let a = c.args.self.now in
-    let held = g.S.Source.held c.args.source.now in
-    let here = decoding c.self.inside.units c.self.inside.state c.self.inside.draining c.self.inside.given c.self.inside.stream_end in (
-      leads_going a c.self.inside.units c.advance_by_unit.new.units c.self.inside.state c.next_due.new.state c.advance_by_unit.new.state c.self.inside.draining true c.self.inside.given c.self.inside.given c.self.inside.stream_end
-          held held (g.S.Source.held c.advance_by_unit.new.source) [] (leads_same a here held c.self.view_is) c.in-None.ensures.settles c.in-Going.is
-          (subst (λ (s : Step). Advances (Ok s) c.self.inside.units c.advance_by_unit.new.units c.next_due.new.state c.advance_by_unit.new.state held (g.S.Source.held c.advance_by_unit.new.source)) c.in-Ok-Drains.field-0-is c.in-Ok-Drains.ensures.advances),
-      (sym (ap (λ (d : Decoding). d.stream_end) c.self.view_is) ∙ c.in-Going.is),
-      λ (e : c.self.inside.stream_end ≡ stream_end.Stopped). let both : stream_end.Going ≡ stream_end.Stopped = sym c.in-Going.is ∙ e in cc,
-      ap (λ (d : Decoding). d.given) c.self.view_is,
-      λ (e : c.self.inside.stream_end ≡ stream_end.Going). omega (arith, ap (λ (d : Decoding). d.units.unit_place.at) c.self.view_is, c.in-Ok-Drains.ensures.goes_on.1),
-    )
-
-pub returns-in-Ok-Drains-clause-before_more : goal.returns-in-Ok-Drains-clause-before_more
-returns-in-Ok-Drains-clause-before_more g c =
-    let a = c.args.self.now in
-    let held = g.S.Source.held c.args.source.now in
-    let here = decoding c.self.inside.units c.self.inside.state c.self.inside.draining c.self.inside.given c.self.inside.stream_end in
-    λ there more. (
-      leads_going a c.self.inside.units c.advance_by_unit.new.units c.self.inside.state c.next_due.new.state c.advance_by_unit.new.state c.self.inside.draining true c.self.inside.given c.self.inside.given c.self.inside.stream_end
-          (append_known held more) (append_known held more) (append_known (g.S.Source.held c.advance_by_unit.new.source) more) [] (leads_same a here (append_known held more) c.self.view_is) c.in-None.ensures.settles c.in-Going.is
-          (subst (λ (s : Step). Advances (Ok s) c.self.inside.units c.advance_by_unit.new.units c.next_due.new.state c.advance_by_unit.new.state (append_known held more) (append_known (g.S.Source.held c.advance_by_unit.new.source) more)) c.in-Ok-Drains.field-0-is
-          (c.in-Ok-Drains.ensures.advances_before_more (subst (λ (u : CuttingProgress). IsThere u held) (sym (ap (λ (d : Decoding). d.units) c.self.view_is)) there) more)),
-      (sym (ap (λ (d : Decoding). d.stream_end) c.self.view_is) ∙ c.in-Going.is),
-      λ (e : c.self.inside.stream_end ≡ stream_end.Stopped). let both : stream_end.Going ≡ stream_end.Stopped = sym c.in-Going.is ∙ e in cc,
-      ap (λ (d : Decoding). d.given) c.self.view_is,
-      λ (e : c.self.inside.stream_end ≡ stream_end.Going). omega (arith, ap (λ (d : Decoding). d.units.unit_place.at) c.self.view_is, c.in-Ok-Drains.ensures.goes_on.1),
-    )
-
-pub returns-in-Err-End-clause-gives : goal.returns-in-Err-End-clause-gives
-returns-in-Err-End-clause-gives g c =
-    let a = c.args.self.now in
-    let held = g.S.Source.held c.args.source.now in
-    let here = decoding c.self.inside.units c.self.inside.state c.self.inside.draining c.self.inside.given c.self.inside.stream_end in (
-      leads_unit a c.self.inside.units c.advance_by_unit.new.units c.self.inside.state c.next_due.new.state c.advance_by_unit.new.state c.self.inside.draining true c.self.inside.given c.self.inside.given c.self.inside.stream_end stream_end.Ended
-          held held (g.S.Source.held c.advance_by_unit.new.source) [] (leads_same a here held c.self.view_is) c.in-None.ensures.settles c.in-Going.is
-          (subst (λ (s : Halt). Advances (Err s) c.self.inside.units c.advance_by_unit.new.units c.next_due.new.state c.advance_by_unit.new.state held (g.S.Source.held c.advance_by_unit.new.source)) c.in-Err-End.field-0-is c.in-Err-End.ensures.advances),
-      (sym (ap (λ (d : Decoding). d.stream_end) c.self.view_is) ∙ c.in-Going.is),
-      λ (e : stream_end.Ended ≡ stream_end.Stopped). cc,
-      ap (λ (d : Decoding). d.given) c.self.view_is,
-      λ (e : stream_end.Ended ≡ stream_end.Going). absurd (not_ended e),
-    )
-
-pub returns-in-Err-End-clause-before_more : goal.returns-in-Err-End-clause-before_more
-returns-in-Err-End-clause-before_more g c =
-    let a = c.args.self.now in
-    let held = g.S.Source.held c.args.source.now in
-    let here = decoding c.self.inside.units c.self.inside.state c.self.inside.draining c.self.inside.given c.self.inside.stream_end in
-    λ there more. (
-      leads_unit a c.self.inside.units c.advance_by_unit.new.units c.self.inside.state c.next_due.new.state c.advance_by_unit.new.state c.self.inside.draining true c.self.inside.given c.self.inside.given c.self.inside.stream_end stream_end.Ended
-          (append_known held more) (append_known held more) (append_known (g.S.Source.held c.advance_by_unit.new.source) more) [] (leads_same a here (append_known held more) c.self.view_is) c.in-None.ensures.settles c.in-Going.is
-          (subst (λ (s : Halt). Advances (Err s) c.self.inside.units c.advance_by_unit.new.units c.next_due.new.state c.advance_by_unit.new.state (append_known held more) (append_known (g.S.Source.held c.advance_by_unit.new.source) more)) c.in-Err-End.field-0-is
-          (c.in-Err-End.ensures.advances_before_more (subst (λ (u : CuttingProgress). IsThere u held) (sym (ap (λ (d : Decoding). d.units) c.self.view_is)) there) more)),
-      (sym (ap (λ (d : Decoding). d.stream_end) c.self.view_is) ∙ c.in-Going.is),
-      λ (e : stream_end.Ended ≡ stream_end.Stopped). cc,
-      ap (λ (d : Decoding). d.given) c.self.view_is,
-      λ (e : stream_end.Ended ≡ stream_end.Going). absurd (not_ended e),
-    )
-
-pub returns-in-Err-Fault-clause-gives : goal.returns-in-Err-Fault-clause-gives
-returns-in-Err-Fault-clause-gives g c =
-    let a = c.args.self.now in
-    let held = g.S.Source.held c.args.source.now in
-    let here = decoding c.self.inside.units c.self.inside.state c.self.inside.draining c.self.inside.given c.self.inside.stream_end in (
-      leads_unit a c.self.inside.units c.advance_by_unit.new.units c.self.inside.state c.next_due.new.state c.advance_by_unit.new.state c.self.inside.draining true c.self.inside.given c.self.inside.given c.self.inside.stream_end (stream_end.Faulted c.in-Err-Fault.fault)
-          held held (g.S.Source.held c.advance_by_unit.new.source) [] (leads_same a here held c.self.view_is) c.in-None.ensures.settles c.in-Going.is
-          (subst (λ (s : Halt). Advances (Err s) c.self.inside.units c.advance_by_unit.new.units c.next_due.new.state c.advance_by_unit.new.state held (g.S.Source.held c.advance_by_unit.new.source)) c.in-Err-Fault.field-0-is c.in-Err-Fault.ensures.advances),
-      (sym (ap (λ (d : Decoding). d.stream_end) c.self.view_is) ∙ c.in-Going.is),
-      λ (e : (stream_end.Faulted c.in-Err-Fault.fault) ≡ stream_end.Stopped). cc,
-      ap (λ (d : Decoding). d.given) c.self.view_is,
-      λ (e : (stream_end.Faulted c.in-Err-Fault.fault) ≡ stream_end.Going). absurd (not_faulted c.in-Err-Fault.fault e),
-    )
-
-pub returns-in-Err-Fault-clause-before_more : goal.returns-in-Err-Fault-clause-before_more
-returns-in-Err-Fault-clause-before_more g c =
-    let a = c.args.self.now in
-    let held = g.S.Source.held c.args.source.now in
-    let here = decoding c.self.inside.units c.self.inside.state c.self.inside.draining c.self.inside.given c.self.inside.stream_end in
-    λ there more. (
-      leads_unit a c.self.inside.units c.advance_by_unit.new.units c.self.inside.state c.next_due.new.state c.advance_by_unit.new.state c.self.inside.draining true c.self.inside.given c.self.inside.given c.self.inside.stream_end (stream_end.Faulted c.in-Err-Fault.fault)
-          (append_known held more) (append_known held more) (append_known (g.S.Source.held c.advance_by_unit.new.source) more) [] (leads_same a here (append_known held more) c.self.view_is) c.in-None.ensures.settles c.in-Going.is
-          (subst (λ (s : Halt). Advances (Err s) c.self.inside.units c.advance_by_unit.new.units c.next_due.new.state c.advance_by_unit.new.state (append_known held more) (append_known (g.S.Source.held c.advance_by_unit.new.source) more)) c.in-Err-Fault.field-0-is
-          (c.in-Err-Fault.ensures.advances_before_more (subst (λ (u : CuttingProgress). IsThere u held) (sym (ap (λ (d : Decoding). d.units) c.self.view_is)) there) more)),
-      (sym (ap (λ (d : Decoding). d.stream_end) c.self.view_is) ∙ c.in-Going.is),
-      λ (e : (stream_end.Faulted c.in-Err-Fault.fault) ≡ stream_end.Stopped). cc,
-      ap (λ (d : Decoding). d.given) c.self.view_is,
-      λ (e : (stream_end.Faulted c.in-Err-Fault.fault) ≡ stream_end.Going). absurd (not_faulted c.in-Err-Fault.fault e),
-    )
-
-pub returns-in-Some-clause-at_most_one_unit : goal.returns-in-Some-clause-at_most_one_unit
-returns-in-Some-clause-at_most_one_unit g c =
-    subst (λ (d : Decoding). TakesOne (Some (next.Shown c.in-Some.picture)) d (decoding c.self.inside.units c.next_due.new.state c.self.inside.draining (c.self.inside.given + 1) c.self.inside.stream_end) (g.S.Source.held c.args.source.now) (g.S.Source.held c.args.source.now)) c.self.view_is
-    (one_due c.in-Some.picture c.self.inside.units c.self.inside.state c.next_due.new.state c.self.inside.draining c.self.inside.given c.self.inside.stream_end (g.S.Source.held c.args.source.now) c.in-Some.ensures.settled c.in-Some.ensures.due)
-
-pub returns-in-Ended-clause-at_most_one_unit : goal.returns-in-Ended-clause-at_most_one_unit
-returns-in-Ended-clause-at_most_one_unit g c =
-    subst (λ (d : Decoding). TakesOne (Some next.End) d (decoding c.self.inside.units c.next_due.new.state false c.self.inside.given c.self.inside.stream_end) (g.S.Source.held c.args.source.now) (g.S.Source.held c.args.source.now)) c.self.view_is
-    (one_met next.End c.self.inside.units c.self.inside.state c.next_due.new.state c.self.inside.draining c.self.inside.given c.self.inside.stream_end (g.S.Source.held c.args.source.now) c.in-None.ensures.settled (λ e. let both : stream_end.Ended ≡ stream_end.Going = sym c.in-Ended.is ∙ e in cc))
-
-pub returns-in-Faulted-clause-at_most_one_unit : goal.returns-in-Faulted-clause-at_most_one_unit
-returns-in-Faulted-clause-at_most_one_unit g c =
-    subst (λ (d : Decoding). TakesOne (Some (next.Fault c.in-Faulted.fault)) d (decoding c.self.inside.units c.next_due.new.state false c.self.inside.given c.self.inside.stream_end) (g.S.Source.held c.args.source.now) (g.S.Source.held c.args.source.now)) c.self.view_is
-    (one_met (next.Fault c.in-Faulted.fault) c.self.inside.units c.self.inside.state c.next_due.new.state c.self.inside.draining c.self.inside.given c.self.inside.stream_end (g.S.Source.held c.args.source.now) c.in-None.ensures.settled (λ e. let both : stream_end.Faulted c.in-Faulted.fault ≡ stream_end.Going = sym c.in-Faulted.is ∙ e in cc))
-
-pub returns-in-Ok-On-clause-at_most_one_unit : goal.returns-in-Ok-On-clause-at_most_one_unit
-returns-in-Ok-On-clause-at_most_one_unit g c =
-    subst (λ (d : Decoding). TakesOne None d (decoding c.advance_by_unit.new.units c.advance_by_unit.new.state false c.self.inside.given c.self.inside.stream_end) (g.S.Source.held c.args.source.now) (g.S.Source.held c.advance_by_unit.new.source)) c.self.view_is
-    (one_unit step.On c.self.inside.units c.advance_by_unit.new.units c.self.inside.state c.next_due.new.state c.advance_by_unit.new.state c.self.inside.draining c.self.inside.given c.self.inside.given c.self.inside.stream_end (g.S.Source.held c.args.source.now) (g.S.Source.held c.advance_by_unit.new.source) c.in-None.ensures.settled c.in-Going.is (subst (λ (x : Step). TakesBy (Ok x) c.self.inside.units c.advance_by_unit.new.units c.next_due.new.state c.advance_by_unit.new.state (g.S.Source.held c.args.source.now) (g.S.Source.held c.advance_by_unit.new.source)) c.in-Ok-On.field-0-is c.in-Ok-On.ensures.takes))
-
-pub returns-in-Ok-Drains-clause-at_most_one_unit : goal.returns-in-Ok-Drains-clause-at_most_one_unit
-returns-in-Ok-Drains-clause-at_most_one_unit g c =
-    subst (λ (d : Decoding). TakesOne None d (decoding c.advance_by_unit.new.units c.advance_by_unit.new.state true c.self.inside.given c.self.inside.stream_end) (g.S.Source.held c.args.source.now) (g.S.Source.held c.advance_by_unit.new.source)) c.self.view_is
-    (one_unit step.Drains c.self.inside.units c.advance_by_unit.new.units c.self.inside.state c.next_due.new.state c.advance_by_unit.new.state c.self.inside.draining c.self.inside.given c.self.inside.given c.self.inside.stream_end (g.S.Source.held c.args.source.now) (g.S.Source.held c.advance_by_unit.new.source) c.in-None.ensures.settled c.in-Going.is (subst (λ (x : Step). TakesBy (Ok x) c.self.inside.units c.advance_by_unit.new.units c.next_due.new.state c.advance_by_unit.new.state (g.S.Source.held c.args.source.now) (g.S.Source.held c.advance_by_unit.new.source)) c.in-Ok-Drains.field-0-is c.in-Ok-Drains.ensures.takes))
-
-pub returns-in-Err-End-clause-at_most_one_unit : goal.returns-in-Err-End-clause-at_most_one_unit
-returns-in-Err-End-clause-at_most_one_unit g c =
-    subst (λ (d : Decoding). TakesOne None d (decoding c.advance_by_unit.new.units c.advance_by_unit.new.state true c.self.inside.given stream_end.Ended) (g.S.Source.held c.args.source.now) (g.S.Source.held c.advance_by_unit.new.source)) c.self.view_is
-    (one_end c.self.inside.units c.advance_by_unit.new.units c.self.inside.state c.next_due.new.state c.advance_by_unit.new.state c.self.inside.draining c.self.inside.given c.self.inside.given c.self.inside.stream_end (g.S.Source.held c.args.source.now) (g.S.Source.held c.advance_by_unit.new.source) c.in-None.ensures.settled c.in-Going.is (subst (λ (x : Halt). TakesBy (Err x) c.self.inside.units c.advance_by_unit.new.units c.next_due.new.state c.advance_by_unit.new.state (g.S.Source.held c.args.source.now) (g.S.Source.held c.advance_by_unit.new.source)) c.in-Err-End.field-0-is c.in-Err-End.ensures.takes))
-
-pub returns-in-Err-Fault-clause-at_most_one_unit : goal.returns-in-Err-Fault-clause-at_most_one_unit
-returns-in-Err-Fault-clause-at_most_one_unit g c =
-    subst (λ (d : Decoding). TakesOne None d (decoding c.advance_by_unit.new.units c.advance_by_unit.new.state true c.self.inside.given (stream_end.Faulted c.in-Err-Fault.fault)) (g.S.Source.held c.args.source.now) (g.S.Source.held c.advance_by_unit.new.source)) c.self.view_is
-    (one_fault c.in-Err-Fault.fault c.self.inside.units c.advance_by_unit.new.units c.self.inside.state c.next_due.new.state c.advance_by_unit.new.state c.self.inside.draining c.self.inside.given c.self.inside.given c.self.inside.stream_end (g.S.Source.held c.args.source.now) (g.S.Source.held c.advance_by_unit.new.source) c.in-None.ensures.settled c.in-Going.is (subst (λ (x : Halt). TakesBy (Err x) c.self.inside.units c.advance_by_unit.new.units c.next_due.new.state c.advance_by_unit.new.state (g.S.Source.held c.args.source.now) (g.S.Source.held c.advance_by_unit.new.source)) c.in-Err-Fault.field-0-is c.in-Err-Fault.ensures.takes))
-
-pub returns-in-Err-ReadFault-clause-at_most_one_unit : goal.returns-in-Err-ReadFault-clause-at_most_one_unit
-returns-in-Err-ReadFault-clause-at_most_one_unit g c =
-    subst (λ (d : Decoding). TakesOne (Some next.ReadFault) d (decoding c.advance_by_unit.new.units c.advance_by_unit.new.state false c.self.inside.given stream_end.Stopped) (g.S.Source.held c.args.source.now) (g.S.Source.held c.advance_by_unit.new.source)) c.self.view_is
-    (one_stop next.ReadFault c.self.inside.units c.advance_by_unit.new.units c.self.inside.state c.next_due.new.state c.advance_by_unit.new.state c.self.inside.draining c.self.inside.given c.self.inside.given c.self.inside.stream_end (g.S.Source.held c.args.source.now) (g.S.Source.held c.advance_by_unit.new.source) c.in-None.ensures.settled c.in-Going.is (subst (λ (x : Halt). TakesBy (Err x) c.self.inside.units c.advance_by_unit.new.units c.next_due.new.state c.advance_by_unit.new.state (g.S.Source.held c.args.source.now) (g.S.Source.held c.advance_by_unit.new.source)) c.in-Err-ReadFault.field-0-is c.in-Err-ReadFault.ensures.takes))
-
-pub returns-in-Err-NoMemory-clause-at_most_one_unit : goal.returns-in-Err-NoMemory-clause-at_most_one_unit
-returns-in-Err-NoMemory-clause-at_most_one_unit g c =
-    subst (λ (d : Decoding). TakesOne (Some next.NoMemory) d (decoding c.advance_by_unit.new.units c.advance_by_unit.new.state false c.self.inside.given stream_end.Stopped) (g.S.Source.held c.args.source.now) (g.S.Source.held c.advance_by_unit.new.source)) c.self.view_is
-    (one_stop next.NoMemory c.self.inside.units c.advance_by_unit.new.units c.self.inside.state c.next_due.new.state c.advance_by_unit.new.state c.self.inside.draining c.self.inside.given c.self.inside.given c.self.inside.stream_end (g.S.Source.held c.args.source.now) (g.S.Source.held c.advance_by_unit.new.source) c.in-None.ensures.settled c.in-Going.is (subst (λ (x : Halt). TakesBy (Err x) c.self.inside.units c.advance_by_unit.new.units c.next_due.new.state c.advance_by_unit.new.state (g.S.Source.held c.args.source.now) (g.S.Source.held c.advance_by_unit.new.source)) c.in-Err-NoMemory.field-0-is c.in-Err-NoMemory.ensures.takes))
-
-pub returns-in-Err-ReadFault-clause-broken_off : goal.returns-in-Err-ReadFault-clause-broken_off
-returns-in-Err-ReadFault-clause-broken_off g c =
-    λ fault.
-    breaks_off c.args.self.now c.self.inside.units c.self.inside.state c.next_due.new.state c.self.inside.draining c.self.inside.given c.self.inside.stream_end (g.S.Source.held c.args.source.now) (g.S.Source.held c.args.source.now) (g.S.Source.held c.advance_by_unit.new.source)
-    (leads_same c.args.self.now (decoding c.self.inside.units c.self.inside.state c.self.inside.draining c.self.inside.given c.self.inside.stream_end) (g.S.Source.held c.args.source.now) c.self.view_is) c.in-None.ensures.settles c.in-Going.is (c.advance_by_unit.ensures.part (c.in-Err-ReadFault.is ∙ ap Err c.in-Err-ReadFault.field-0-is))
-
-pub returns-in-Err-NoMemory-clause-stops : goal.returns-in-Err-NoMemory-clause-stops
-returns-in-Err-NoMemory-clause-stops g c =
-    λ stop.
-    stops_in c.args.self.now c.self.inside.units c.self.inside.state c.self.inside.draining c.self.inside.given c.self.inside.stream_end (g.S.Source.held c.args.source.now) (g.S.Source.held c.args.source.now) (g.S.Source.held c.advance_by_unit.new.source)
-    (leads_same c.args.self.now (decoding c.self.inside.units c.self.inside.state c.self.inside.draining c.self.inside.given c.self.inside.stream_end) (g.S.Source.held c.args.source.now) c.self.view_is) c.in-Going.is (c.advance_by_unit.ensures.taken (c.in-Err-NoMemory.is ∙ ap Err c.in-Err-NoMemory.field-0-is))
+    let due = c.in_default-next_due.ensures.gives in
+    let is : answer ≡ answer_by a.stream_end = c.answer_behind.ensures ∙ ap answer_by c.met-met.ensures.value in
+    let met : a.stream_end ≡ stream_end.Going → ⊥ = λ e. c.in_default-met.not-Going (c.met-met.ensures.value ∙ e) in
+    let gives : (known : Option (List ℕ)) → Gives answer a d known known = λ known.
+    subst (λ n. Gives n a d known known) (sym is) (subst (λ (x : Decoding). Gives (answer_by a.stream_end) a x known known) (sym due.1) (gives_met a known met due.0)) in
+    record {
+      gives = gives held;
+      at_most_one_unit = subst (λ (x : Decoding). TakesOne (Some answer) a x held held) (sym due.1) (one_met answer a held due.0 met);
+      before_more = λ there more. gives (append_known held more);
+      repeated = subst (λ n. AnswersWhatWasMet a.stream_end a.due n) (sym is) (answers_met a.stream_end a.due);
+      repeats_without_reading = λ ne. refl;
+      whole = λ at_end e. at_end (sym stays.stream_end ∙ e);
+      broken_off = λ e. let read : answer ≡ next.ReadFault = cc in absurd (met_no_read a.stream_end (sym is ∙ read));
+      stops = λ e. let wants : answer ≡ next.NoMemory = cc in absurd (met_no_memory a.stream_end (sym is ∙ wants));
+      none_ahead = λ none. stays.ahead ∙ none;
+      read = λ e. let read : answer ≡ next.ReadFault = cc in absurd (met_no_read a.stream_end (sym is ∙ read));
+      count = omega arith;
+      fits = c.next_due.ensures.fits;
+      greatest = omega (arith, stays.most);
+      no_overflow = omega (arith, stays.place);
+    }

@@ -1,0 +1,30 @@
+use Rattle.std.proofs.Common.{◌∙◌, ◌+◌, ap, arith, length, subst, sym}
+use Rattle.std.specs.Prelude.{IfSome}
+use Rattle.dirac_decode.specs.Decoding.{AnswersWhatWasMet, BreaksOff, Decoding, StopsIn}
+use Rattle.dirac_decode.specs.Stepping.{IsThere, StepGives, StepGivesBefore, TakesOne}
+use Rattle.dirac_decode.proofs.decoder.Decoder.step.Goals as goal
+
+pub returns : goal.returns
+returns g c =
+    let answer = c.step_by.result in
+    let after = c.step_by.ensures in
+    let new = c.step_by.new.self in
+    let same = c.keep_halves.ensures in
+    let held = g.S.Source.held c.args.source.now in
+    let held' = g.S.Source.held c.step_by.new.source in
+    record {
+      gives = subst (λ (x : Decoding). StepGives answer x new held held') same after.gives;
+      at_most_one_unit = subst (λ (x : Decoding). TakesOne answer x new held held') same after.at_most_one_unit;
+      before_more = subst (λ (x : Decoding). IsThere x.units held → StepGivesBefore answer x new held held') same after.before_more;
+      repeated = subst (λ (x : Decoding). IfSome answer (AnswersWhatWasMet x.stream_end x.due)) same after.repeated;
+      repeats_without_reading = λ ne. after.repeats_without_reading (λ e. ne (sym (ap (λ (x : Decoding). x.stream_end) same) ∙ e));
+      whole = λ at_end. after.whole (λ e. at_end (sym (ap (λ (x : Decoding). x.stream_end) same) ∙ e));
+      broken_off = λ is. subst (λ (x : Decoding). BreaksOff x held held') same (after.broken_off is);
+      stops = λ is. subst (λ (x : Decoding). StopsIn x held held') same (after.stops is);
+      none_ahead = λ none. after.none_ahead (ap (λ (x : Decoding). x.units.ahead) same ∙ none);
+      read = after.read;
+      count = after.count;
+      fits = after.fits;
+      greatest = omega (arith, ap (λ (x : Decoding). x.state.most) same, after.greatest);
+      no_overflow = omega (arith, ap (λ (x : Decoding). x.units.unit_place.at + length x.units.ahead) same, after.no_overflow);
+    }
