@@ -1,6 +1,7 @@
 -- A band is read as its block is found, and then read there.
 use Rattle.std.proofs.Common.{◌≡◌, ℕ, ℤ, pos, ◌*◌, ◌^◌, ◌-◌, ◌<◌, ◌≤◌, ◌==◌, if◌then◌else◌, Bool, true, false, List, Result, Ok, Err, Option, Some, None, refl, ap, ap₂, sym, ◌∙◌, arith, lit<, unsigned_abs, nat_le, le-leb, eq-eqb, ne_eqb}
 use Rattle.std.proofs.lemmas.Bool.{and_from}
+use Rattle.std.proofs.lemmas.Bool.Decides.{nat_tests}
 use Rattle.std.proofs.lemmas.List.{length-replicate}
 use Rattle.std.proofs.lemmas.List.Elements.{All-replicate}
 use Rattle.dirac_common.specs.Limits.{IsIndex}
@@ -151,3 +152,25 @@ site_found len s c d e told some found = rw told (site_behind len (len == 0) d (
 pub site_refused : (len : ℕ) (c d : Cursor) (refusal : Refusal) → uint_at (aligned c) ≡ Ok (len, d) → (len ≡ 0 → ⊥) → read (coded_site len) d ≡ Err refusal → read site c ≡ Err refusal
 unfolding site
 site_refused len c d refusal told some found = rw told (site_behind len (len == 0) d (Err refusal) (ne_eqb len 0 some) found)
+
+-- an index or a length that can't be read, and an index that is none
+no_index_behind : (len index p : ℕ) (allowed : Bool) (d : Cursor) → allowed ≡ false
+    → read ((if allowed then done index else refuse p QuantIndex) >>= λ i. align >>= λ gap. here >>= λ a. block_then len (λ b. let s : Found = record { index = i; at = a; block = b } in done s)) d ≡ Err (record { at = p; cause = QuantIndex })
+no_index_behind len index p false d holds = refl
+no_index_behind len index p true d holds = absurd cc
+
+pub coded_no_index : (len index p : ℕ) (c d : Cursor) → uint_at c ≡ Ok (index, d) → 99 < index → p ≡ place c → read (coded_site len) c ≡ Err (record { at = p; cause = QuantIndex })
+unfolding coded_site
+coded_no_index len index p c d told large here =
+    rw (told, here) (no_index_behind len index (place c) (between 0 99 index) d (gt-leb_false index large))
+  where
+    gt-leb_false : (n : ℕ) → 99 < n → between 0 99 n ≡ false
+    gt-leb_false n more = grind (arith, nat_tests)
+
+pub coded_unread : (len : ℕ) (c : Cursor) (refusal : Refusal) → uint_at c ≡ Err refusal → read (coded_site len) c ≡ Err refusal
+unfolding coded_site
+coded_unread len c refusal told = rw told refl
+
+pub site_unread : (c : Cursor) (refusal : Refusal) → uint_at (aligned c) ≡ Err refusal → read site c ≡ Err refusal
+unfolding site
+site_unread c refusal told = rw told refl

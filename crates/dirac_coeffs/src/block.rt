@@ -1,15 +1,15 @@
 ghost use Rattle.std.specs.Prelude.{◌≡◌, ◌*◌, true, None, pos, length, replicate, IfOk};
 ghost use Rattle.dirac_coeffs.specs.Answers.{Fills, GivesBlock, GivesNarrow, Holds, stopped_at};
-ghost use Rattle.dirac_coeffs.specs.BandRead.{band_read, band_content};
+ghost use Rattle.dirac_coeffs.specs.BandRead.{band_read};
 ghost use Rattle.dirac_coeffs.specs.Carried.{AreLawful, CarriesLong, CarriesNoIndex};
 ghost use Rattle.dirac_coeffs.specs.Indices.{all_equal};
 ghost use Rattle.dirac_coeffs.specs.Layouts.{IsBandLayout};
-ghost use Rattle.dirac_coeffs.specs.Lent.{IsNarrow, numbers_in, values_in};
+ghost use Rattle.dirac_coeffs.specs.Lent.{IsNarrow, content_in, numbers_in, values_in};
 ghost use Rattle.dirac_common.specs.Limits.{IsIndex};
 
-use crate::codeblocks::read_all;
+use crate::codeblocks::{BandFrame, Filling, read_all};
 use crate::coefficients::Coefficients;
-use crate::indices::{Indices, equal_indices};
+use crate::indices::equal_indices;
 use crate::layout::{BandBlock, BandLayout};
 use crate::numbers::Numbers;
 use crate::store::{Unread, Values};
@@ -25,47 +25,46 @@ fn zeros(alloc: Global, layout: BandLayout, wide: bool) -> Result<Values, NoMemo
 {
     let count = layout.width as usize * layout.height as usize;
     if wide {
-        let list = vec![in alloc; 0i64; count]?;
-        return Ok(Values::Wide(list));
+        return match vec![in alloc; 0i64; count] {
+            Ok(list) => Ok(Values::Wide(list)),
+            Err(_error) => Err(NoMemory),
+        };
     }
-    let list = vec![in alloc; 0i32; count]?;
-    Ok(Values::Narrow(list))
+    match vec![in alloc; 0i32; count] {
+        Ok(list) => Ok(Values::Narrow(list)),
+        Err(_error) => Err(NoMemory),
+    }
 }
 
 /// Reads a block into values that are zeros, and indices that are the band's.
-fn read_content(
-    block: &[u8],
-    values: &mut Values,
-    indices: &mut Indices,
-    layout: BandLayout,
-    parent: Numbers<'_>,
-    index: u8,
-) -> Result<(), Unread>
-    requires layout { IsBandLayout layout }
-    requires zeros { values_in values.old ≡ replicate (layout.width * layout.height) (pos 0) }
-    requires equal { indices.old ≡ all_equal layout index }
-    ensures value { Fills (IsNarrow values.new) result (band_content (values_in values.new) indices.new)
-        (band_read layout (numbers_in parent.entry) index block.now) }
-    ensures len { length (values_in values.new) ≡ layout.width * layout.height }
-    ensures narrow { IsNarrow values.new → IsNarrow values.old }
+fn read_content(block: &[u8], filling: &mut Filling, frame: BandFrame<'_>) -> Result<(), Unread>
+    requires layout { IsBandLayout frame.layout }
+    requires zeros { values_in filling.old.values ≡ replicate (frame.layout.width * frame.layout.height) (pos 0) }
+    requires equal { filling.old.indices ≡ all_equal frame.layout frame.index }
+    ensures value { Fills (IsNarrow filling.new.values) result (content_in filling.new)
+        (band_read frame.entry.layout (numbers_in frame.entry.parent) frame.entry.index block.now) }
+    ensures len { length (values_in filling.new.values) ≡ frame.entry.layout.width * frame.entry.layout.height }
+    ensures narrow { IsNarrow filling.new.values → IsNarrow filling.old.values }
 {
     let mut decoder = Decoder::new(block);
-    read_all(&mut decoder, values, indices, layout, parent, index)
+    read_all(&mut decoder, filling, frame)
 }
 
-/// The block of these values and indices.
+/// The block of what was read.
 fn held_block(
     alloc: Global,
     layout: BandLayout,
-    values: Values,
-    indices: Indices,
+    filling: Filling,
 ) -> Result<Option<BandBlock>, Stop>
     requires layout { IsBandLayout layout }
-    requires len { length (values_in values) ≡ layout.width * layout.height }
-    ensures { Holds layout result (band_content (values_in values) indices) }
+    requires len { length (values_in filling.values) ≡ layout.width * layout.height }
+    ensures { Holds layout result (content_in filling) }
 {
-    let table = Coefficients::of_values(alloc, layout.width, layout.height, values)?;
-    Ok(Some(BandBlock { indices, table }))
+    let Filling { values, indices } = filling;
+    match Coefficients::of_values(alloc, layout.width, layout.height, values) {
+        Ok(table) => Ok(Some(BandBlock { indices, table })),
+        Err(_no_memory) => Err(Stop::NoMemory),
+    }
 }
 
 /// What is answered of a block at this place where its reading stopped.
@@ -83,38 +82,32 @@ fn read_as(
     alloc: Global,
     block: &[u8],
     at: u64,
-    layout: BandLayout,
-    parent: Numbers<'_>,
-    index: u8,
+    frame: BandFrame<'_>,
     wide: bool,
 ) -> Result<Option<BandBlock>, Stop>
-    requires layout { IsBandLayout layout }
-    requires index { IsIndex index }
-    ensures value { GivesNarrow layout at result (band_read layout (numbers_in parent.entry) index block.now) }
+    requires layout { IsBandLayout frame.layout }
+    requires index { IsIndex frame.index }
+    ensures value { GivesNarrow frame.entry.layout at result
+        (band_read frame.entry.layout (numbers_in frame.entry.parent) frame.entry.index block.now) }
     ensures some { wide ≡ true → IfOk result (λ found. found ≡ None → ⊥) }
 {
-    let mut values = zeros(alloc, layout, wide)?;
-    let mut indices = equal_indices(alloc, layout, index)?;
-    match read_content(block, &mut values, &mut indices, layout, parent, index) {
-        Ok(()) => held_block(alloc, layout, values, indices),
+    let values = zeros(alloc, frame.layout, wide)?;
+    let indices = equal_indices(alloc, frame.layout, frame.index)?;
+    let mut filling = Filling { values, indices };
+    match read_content(block, &mut filling, frame) {
+        Ok(()) => held_block(alloc, frame.layout, filling),
         Err(unread) => stopped(unread, at),
     }
 }
 
 /// Reads a block in 64 bits.
-fn read_wide(
-    alloc: Global,
-    block: &[u8],
-    at: u64,
-    layout: BandLayout,
-    parent: Numbers<'_>,
-    index: u8,
-) -> Result<BandBlock, Stop>
-    requires layout { IsBandLayout layout }
-    requires index { IsIndex index }
-    ensures { GivesBlock layout at result (band_read layout (numbers_in parent.entry) index block.now) }
+fn read_wide(alloc: Global, block: &[u8], at: u64, frame: BandFrame<'_>) -> Result<BandBlock, Stop>
+    requires layout { IsBandLayout frame.layout }
+    requires index { IsIndex frame.index }
+    ensures { GivesBlock frame.entry.layout at result
+        (band_read frame.entry.layout (numbers_in frame.entry.parent) frame.entry.index block.now) }
 {
-    match read_as(alloc, block, at, layout, parent, index, true) {
+    match read_as(alloc, block, at, frame, true) {
         Ok(Some(found)) => Ok(found),
         Ok(None) => unreachable!(),
         Err(stop) => Err(stop),
@@ -122,21 +115,15 @@ fn read_wide(
 }
 
 /// Reads a block in 32 bits, and where a value doesn't fit again in 64.
-fn read_lent(
-    alloc: Global,
-    block: &[u8],
-    at: u64,
-    layout: BandLayout,
-    parent: Numbers<'_>,
-    index: u8,
-) -> Result<BandBlock, Stop>
-    requires layout { IsBandLayout layout }
-    requires index { IsIndex index }
-    ensures { GivesBlock layout at result (band_read layout (numbers_in parent.entry) index block.now) }
+fn read_lent(alloc: Global, block: &[u8], at: u64, frame: BandFrame<'_>) -> Result<BandBlock, Stop>
+    requires layout { IsBandLayout frame.layout }
+    requires index { IsIndex frame.index }
+    ensures { GivesBlock frame.entry.layout at result
+        (band_read frame.entry.layout (numbers_in frame.entry.parent) frame.entry.index block.now) }
 {
-    match read_as(alloc, block, at, layout, parent, index, false) {
+    match read_as(alloc, block, at, frame, false) {
         Ok(Some(found)) => Ok(found),
-        Ok(None) => read_wide(alloc, block, at, layout, parent, index),
+        Ok(None) => read_wide(alloc, block, at, frame),
         Err(stop) => Err(stop),
     }
 }
@@ -160,7 +147,12 @@ pub fn read_below(
     ensures no_index { result ≡ Err (Stop.Refused (record { at = at; cause = Cause.QuantIndex }))
         → CarriesNoIndex layout (numbers_in parent.entry) index block.now }
 {
-    read_lent(alloc, block, at, layout, parent, index)
+    let frame = BandFrame {
+        layout,
+        parent,
+        index,
+    };
+    read_lent(alloc, block, at, frame)
 }
 
 /// The coefficients of a subband from its arithmetic block (wavelet coefficients, Dirac specification, section 13), and

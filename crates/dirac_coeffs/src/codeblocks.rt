@@ -1,10 +1,10 @@
 ghost use Rattle.std.specs.Prelude.{◌≡◌, ◌+◌, ◌*◌, ◌^◌, ◌<◌, ◌≤◌, length};
 ghost use Rattle.dirac_arith.specs.Coded.{read_coded};
 ghost use Rattle.dirac_coeffs.specs.Answers.{Flags, Goes};
-ghost use Rattle.dirac_coeffs.specs.BandRead.{band_content, unskipped_step, block_step, blocks_step};
+ghost use Rattle.dirac_coeffs.specs.BandRead.{unskipped_step, block_step, blocks_step};
 ghost use Rattle.dirac_coeffs.specs.BandRead.{block_rows_step};
 ghost use Rattle.dirac_coeffs.specs.Layouts.{IsBandLayout, codeblock_extent};
-ghost use Rattle.dirac_coeffs.specs.Lent.{IsNarrow, numbers_in, values_in};
+ghost use Rattle.dirac_coeffs.specs.Lent.{IsNarrow, content_in, numbers_in, values_in};
 
 use crate::indices::Indices;
 use crate::layout::BandLayout;
@@ -16,33 +16,57 @@ use crate::store::{Unread, Values};
 use dirac_arith::{Decoder, ZERO_FLAG};
 use dirac_common::{Cause, LARGEST_TABLE_SIDE};
 
+/// What is read of a block so far: values that were zeros, and indices that were the band's.
+#[derive(Drop)]
+pub struct Filling {
+    pub values: Values,
+    pub indices: Indices,
+}
+
+/// The band that a block is of: its layout, the numbers of its parent, and its own index.
+#[derive(Clone, Copy)]
+pub struct BandFrame<'a> {
+    pub layout: BandLayout,
+    pub parent: Numbers<'a>,
+    pub index: u8,
+}
+
 /// Reads a codeblock that isn't skipped: in mode 1 the offset of its index, and its values.
 fn read_unskipped(
     decoder: &mut Decoder<'_>,
-    values: &mut Values,
-    indices: &mut Indices,
-    layout: BandLayout,
-    parent: Numbers<'_>,
-    index: u8,
+    filling: &mut Filling,
+    frame: BandFrame<'_>,
     codeblock: Codeblock,
 ) -> Result<(), Unread>
-    requires layout { IsBandLayout layout }
-    requires row { codeblock.row < layout.down }
-    requires column { codeblock.column < layout.across }
-    requires len { length (values_in values.old) ≡ layout.width * layout.height }
-    requires count { length indices.old ≡ layout.across * layout.down }
+    requires layout { IsBandLayout frame.layout }
+    requires row { codeblock.row < frame.layout.down }
+    requires column { codeblock.column < frame.layout.across }
+    requires len { length (values_in filling.old.values) ≡ frame.layout.width * frame.layout.height }
+    requires count { length filling.old.indices ≡ frame.layout.across * frame.layout.down }
     requires no_overflow { decoder.old.at.doublings < 2 ^ 57 + 9 }
-    ensures value { Goes (IsNarrow values.new) result (band_content (values_in values.new) indices.new) decoder.new
-        (read_coded (unskipped_step layout (numbers_in parent.entry) index codeblock.row codeblock.column
-        (band_content (values_in values.old) indices.old)) decoder.old) }
-    ensures len { length (values_in values.new) ≡ length (values_in values.old) }
-    ensures narrow { IsNarrow values.new → IsNarrow values.old }
-    ensures count { length indices.new ≡ length indices.old }
+    ensures value { Goes (IsNarrow filling.new.values) result (content_in filling.new) decoder.new
+        (read_coded (unskipped_step frame.entry.layout (numbers_in frame.entry.parent) frame.entry.index codeblock.row
+        codeblock.column (content_in filling.old)) decoder.old) }
+    ensures len { length (values_in filling.new.values) ≡ length (values_in filling.old.values) }
+    ensures narrow { IsNarrow filling.new.values → IsNarrow filling.old.values }
+    ensures count { length filling.new.indices ≡ length filling.old.indices }
     ensures few_doublings { decoder.new.at.doublings ≤ decoder.old.at.doublings + 702 + 702 * LARGEST_TABLE_SIDE
-        * codeblock_extent layout.width layout.across codeblock.column }
+        * codeblock_extent frame.entry.layout.width frame.entry.layout.across codeblock.column }
 {
-    match read_offset(decoder, indices, layout, index, codeblock) {
-        Ok(()) => read_block_values(decoder, values, layout, parent, codeblock),
+    match read_offset(
+        decoder,
+        &mut filling.indices,
+        frame.layout,
+        frame.index,
+        codeblock,
+    ) {
+        Ok(()) => read_block_values(
+            decoder,
+            &mut filling.values,
+            frame.layout,
+            frame.parent,
+            codeblock,
+        ),
         Err(cause) => Err(Unread::Refused(cause)),
     }
 }
@@ -62,35 +86,32 @@ fn read_flag(decoder: &mut Decoder<'_>, layout: BandLayout) -> Result<bool, Caus
 /// Reads a codeblock, unless its zero flag skips it.
 fn read_codeblock(
     decoder: &mut Decoder<'_>,
-    values: &mut Values,
-    indices: &mut Indices,
-    layout: BandLayout,
-    parent: Numbers<'_>,
-    index: u8,
+    filling: &mut Filling,
+    frame: BandFrame<'_>,
     codeblock: Codeblock,
 ) -> Result<(), Unread>
-    requires layout { IsBandLayout layout }
-    requires row { codeblock.row < layout.down }
-    requires column { codeblock.column < layout.across }
-    requires len { length (values_in values.old) ≡ layout.width * layout.height }
-    requires count { length indices.old ≡ layout.across * layout.down }
+    requires layout { IsBandLayout frame.layout }
+    requires row { codeblock.row < frame.layout.down }
+    requires column { codeblock.column < frame.layout.across }
+    requires len { length (values_in filling.old.values) ≡ frame.layout.width * frame.layout.height }
+    requires count { length filling.old.indices ≡ frame.layout.across * frame.layout.down }
     requires no_overflow { decoder.old.at.doublings < 2 ^ 57 }
-    ensures value { Goes (IsNarrow values.new) result (band_content (values_in values.new) indices.new) decoder.new
-        (read_coded (block_step layout (numbers_in parent.entry) index codeblock.row codeblock.column
-        (band_content (values_in values.old) indices.old)) decoder.old) }
-    ensures len { length (values_in values.new) ≡ length (values_in values.old) }
-    ensures narrow { IsNarrow values.new → IsNarrow values.old }
-    ensures count { length indices.new ≡ length indices.old }
+    ensures value { Goes (IsNarrow filling.new.values) result (content_in filling.new) decoder.new
+        (read_coded (block_step frame.entry.layout (numbers_in frame.entry.parent) frame.entry.index codeblock.row
+        codeblock.column (content_in filling.old)) decoder.old) }
+    ensures len { length (values_in filling.new.values) ≡ length (values_in filling.old.values) }
+    ensures narrow { IsNarrow filling.new.values → IsNarrow filling.old.values }
+    ensures count { length filling.new.indices ≡ length filling.old.indices }
     ensures few_doublings { decoder.new.at.doublings ≤ decoder.old.at.doublings + 711 + 702 * LARGEST_TABLE_SIDE
-        * codeblock_extent layout.width layout.across codeblock.column }
+        * codeblock_extent frame.entry.layout.width frame.entry.layout.across codeblock.column }
 {
-    match read_flag(decoder, layout) {
+    match read_flag(decoder, frame.layout) {
         Ok(skipped) => {
             if skipped {
-                note_former(indices, layout, index, codeblock);
+                note_former(&mut filling.indices, frame.layout, frame.index, codeblock);
                 return Ok(());
             }
-            read_unskipped(decoder, values, indices, layout, parent, index, codeblock)
+            read_unskipped(decoder, filling, frame, codeblock)
         }
         Err(cause) => Err(Unread::Refused(cause)),
     }
@@ -99,33 +120,33 @@ fn read_codeblock(
 /// Reads row `cy` of codeblocks.
 fn read_codeblocks(
     decoder: &mut Decoder<'_>,
-    values: &mut Values,
-    indices: &mut Indices,
-    layout: BandLayout,
-    parent: Numbers<'_>,
-    index: u8,
+    filling: &mut Filling,
+    frame: BandFrame<'_>,
     cy: u32,
 ) -> Result<(), Unread>
-    requires layout { IsBandLayout layout }
-    requires row { cy < layout.down }
-    requires len { length (values_in values.old) ≡ layout.width * layout.height }
-    requires count { length indices.old ≡ layout.across * layout.down }
+    requires layout { IsBandLayout frame.layout }
+    requires row { cy < frame.layout.down }
+    requires len { length (values_in filling.old.values) ≡ frame.layout.width * frame.layout.height }
+    requires count { length filling.old.indices ≡ frame.layout.across * frame.layout.down }
     requires no_overflow { decoder.old.at.doublings < 2 ^ 56 }
-    ensures value { Goes (IsNarrow values.new) result (band_content (values_in values.new) indices.new) decoder.new
-        (read_coded (blocks_step layout (numbers_in parent.entry) index cy layout.across
-        (band_content (values_in values.old) indices.old)) decoder.old) }
-    ensures len { length (values_in values.new) ≡ length (values_in values.old) }
-    ensures narrow { IsNarrow values.new → IsNarrow values.old }
-    ensures count { length indices.new ≡ length indices.old }
+    ensures value { Goes (IsNarrow filling.new.values) result (content_in filling.new) decoder.new
+        (read_coded (blocks_step frame.entry.layout (numbers_in frame.entry.parent) frame.entry.index cy
+        frame.entry.layout.across (content_in filling.old)) decoder.old) }
+    ensures len { length (values_in filling.new.values) ≡ length (values_in filling.old.values) }
+    ensures narrow { IsNarrow filling.new.values → IsNarrow filling.old.values }
+    ensures count { length filling.new.indices ≡ length filling.old.indices }
     ensures few_doublings { decoder.new.at.doublings ≤ decoder.old.at.doublings + 711 * LARGEST_TABLE_SIDE + 702 *
         LARGEST_TABLE_SIDE * LARGEST_TABLE_SIDE }
 {
-    'across: for cx in 0..layout.across {
+    'across: for cx in 0..frame.layout.across {
         let codeblock = Codeblock {
             row: cy,
             column: cx,
         };
-        read_codeblock(decoder, values, indices, layout, parent, index, codeblock)?;
+        match read_codeblock(decoder, filling, frame, codeblock) {
+            Ok(()) => {}
+            Err(unread) => return Err(unread),
+        }
     }
     Ok(())
 }
@@ -133,25 +154,25 @@ fn read_codeblocks(
 /// Reads all codeblocks of a band of this index into values that are zeros, and indices that are the band's.
 pub fn read_all(
     decoder: &mut Decoder<'_>,
-    values: &mut Values,
-    indices: &mut Indices,
-    layout: BandLayout,
-    parent: Numbers<'_>,
-    index: u8,
+    filling: &mut Filling,
+    frame: BandFrame<'_>,
 ) -> Result<(), Unread>
-    requires layout { IsBandLayout layout }
-    requires len { length (values_in values.old) ≡ layout.width * layout.height }
-    requires count { length indices.old ≡ layout.across * layout.down }
+    requires layout { IsBandLayout frame.layout }
+    requires len { length (values_in filling.old.values) ≡ frame.layout.width * frame.layout.height }
+    requires count { length filling.old.indices ≡ frame.layout.across * frame.layout.down }
     requires at_the_start { decoder.old.at.doublings ≡ 0 }
-    ensures value { Goes (IsNarrow values.new) result (band_content (values_in values.new) indices.new) decoder.new
-        (read_coded (block_rows_step layout (numbers_in parent.entry) index layout.down
-        (band_content (values_in values.old) indices.old)) decoder.old) }
-    ensures len { length (values_in values.new) ≡ length (values_in values.old) }
-    ensures narrow { IsNarrow values.new → IsNarrow values.old }
-    ensures count { length indices.new ≡ length indices.old }
+    ensures value { Goes (IsNarrow filling.new.values) result (content_in filling.new) decoder.new
+        (read_coded (block_rows_step frame.entry.layout (numbers_in frame.entry.parent) frame.entry.index
+        frame.entry.layout.down (content_in filling.old)) decoder.old) }
+    ensures len { length (values_in filling.new.values) ≡ length (values_in filling.old.values) }
+    ensures narrow { IsNarrow filling.new.values → IsNarrow filling.old.values }
+    ensures count { length filling.new.indices ≡ length filling.old.indices }
 {
-    'down: for cy in 0..layout.down {
-        read_codeblocks(decoder, values, indices, layout, parent, index, cy)?;
+    'down: for cy in 0..frame.layout.down {
+        match read_codeblocks(decoder, filling, frame, cy) {
+            Ok(()) => {}
+            Err(unread) => return Err(unread),
+        }
     }
     Ok(())
 }

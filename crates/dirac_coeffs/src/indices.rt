@@ -29,9 +29,10 @@ impl Indices {
     pub fn try_new(alloc: Global, count: u32, value: u8) -> Result<Indices, NoMemory>
         ensures { IfOk result (λ i. i ≡ replicate count value) }
     {
-        Ok(Indices {
-            list: vec![in alloc; value; count as usize]?,
-        })
+        match vec![in alloc; value; count as usize] {
+            Ok(list) => Ok(Indices { list }),
+            Err(_error) => Err(NoMemory),
+        }
     }
 
     /// The index of codeblock `c`, counted from 0.

@@ -1,4 +1,4 @@
-ghost use Rattle.std.specs.Prelude.{◌≡◌, ⊤, ℕ, pos, replicate, ◌+◌, ◌*◌, ◌^◌, ◌<◌, ◌≤◌, length};
+ghost use Rattle.std.specs.Prelude.{◌≡◌, ⊤, ◌+◌, ◌*◌, ◌^◌, ◌<◌, ◌≤◌, length};
 ghost use Rattle.dirac_arith.specs.Coded.{read_coded};
 ghost use Rattle.dirac_coeffs.specs.Answers.{Goes};
 ghost use Rattle.dirac_coeffs.specs.BandRead.{filled_step, row_step};
@@ -15,11 +15,13 @@ use crate::wide_values::read_wide_row;
 use dirac_arith::Decoder;
 use dirac_common::LARGEST_TABLE_SIDE;
 
-/// Reads the values of these columns of row `y` in 32 bits below a parent of zeros, which contexts see as they do none.
-fn read_row_below_zeros(
+/// Reads the values of these columns of row `y` in 32 bits, where the parent is held so or has zeros alone, which
+/// contexts see as they do no parent.
+fn read_row_in_32_bits(
     decoder: &mut Decoder<'_>,
     values: &mut [i32],
     layout: BandLayout,
+    parent: Numbers<'_>,
     y: usize,
     columns: Span,
 ) -> Result<(), Unread>
@@ -28,12 +30,16 @@ fn read_row_below_zeros(
     requires row { y < LARGEST_TABLE_SIDE }
     requires inside { (y + 1) * layout.width ≤ length values.old }
     requires no_overflow { decoder.old.at.doublings < 2 ^ 60 }
-    ensures value { (count : ℕ) → Goes ⊤ result values.new decoder.new (read_coded (row_step
-        (frame_of layout (replicate count (pos 0))) y columns.start columns.length values.old) decoder.old) }
+    ensures value { Goes ⊤ result values.new decoder.new (read_coded (row_step
+        (frame_of layout (numbers_in parent.entry)) y columns.start columns.length values.old) decoder.old) }
     ensures len { length values.new ≡ length values.old }
     ensures few_doublings { decoder.new.at.doublings ≤ decoder.old.at.doublings + 702 * columns.length }
 {
-    read_narrow_row(decoder, values, layout, &[], y, columns)
+    match parent {
+        Numbers::Zeros(_count) => read_narrow_row(decoder, values, layout, &[], y, columns),
+        Numbers::Narrow(list) => read_narrow_row(decoder, values, layout, list, y, columns),
+        Numbers::Wide(_list) => Err(Unread::TooWide),
+    }
 }
 
 /// Reads the values of these columns of row `y`.
@@ -60,19 +66,10 @@ fn read_row(
     match values {
         Values::Narrow(list) => {
             let list = list.as_mut_slice();
-            match parent {
-                Numbers::Zeros(_count) => read_row_below_zeros(decoder, list, layout, y, columns),
-                Numbers::Narrow(parent) => {
-                    read_narrow_row(decoder, list, layout, parent, y, columns)
-                }
-                Numbers::Wide(_parent) => Err(Unread::TooWide),
-            }
+            read_row_in_32_bits(decoder, list, layout, parent, y, columns)
         }
         Values::Wide(list) => {
-            match read_wide_row(decoder, list.as_mut_slice(), layout, parent, y, columns) {
-                Ok(()) => Ok(()),
-                Err(cause) => Err(Unread::Refused(cause)),
-            }
+            read_wide_row(decoder, list.as_mut_slice(), layout, parent, y, columns)
         }
     }
 }
@@ -101,7 +98,10 @@ pub fn read_block_values(
     let columns = codeblock_span(layout.width, layout.across, codeblock.column);
     let rows = codeblock_span(layout.height, layout.down, codeblock.row);
     'rows: for j in 0..rows.length {
-        read_row(decoder, values, layout, parent, rows.start + j, columns)?;
+        match read_row(decoder, values, layout, parent, rows.start + j, columns) {
+            Ok(()) => {}
+            Err(unread) => return Err(unread),
+        }
     }
     Ok(())
 }

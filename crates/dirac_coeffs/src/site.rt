@@ -48,7 +48,6 @@ impl<'a> Site<'a> {
 }
 
 /// Finds the block, of this length, of a subband of which something is coded.
-#[tactic(auto, unfolding(crate::specs::Sites::coded_site))]
 fn find_coded<'a>(r: &mut BitReader<'a>, len: u64) -> Result<Site<'a>, Refusal>
     ensures value { ReadsSeenBy (λ s. s) result r.new (read (coded_site len) r.old) }
     ensures place_inside { IfErr result (λ e. e.at ≤ length r.old.bytes) }
@@ -57,27 +56,30 @@ fn find_coded<'a>(r: &mut BitReader<'a>, len: u64) -> Result<Site<'a>, Refusal>
     ensures block_inside { IfOk result (λ s. s.at ≤ length r.old.bytes) }
 {
     let place = r.place();
-    let index = r.uint()?;
-    if index > LARGEST_INDEX as u64 {
-        return Err(Refusal {
-            at: place,
-            cause: Cause::QuantIndex,
-        });
-    }
-    r.align();
-    let at = r.place();
-    match r.block(len) {
-        Ok(block) => Ok(Site {
-            index: index as u8,
-            at,
-            block,
-        }),
+    match r.uint() {
+        Ok(index) => {
+            if index > LARGEST_INDEX as u64 {
+                return Err(Refusal {
+                    at: place,
+                    cause: Cause::QuantIndex,
+                });
+            }
+            r.align();
+            let at = r.place();
+            match r.block(len) {
+                Ok(block) => Ok(Site {
+                    index: index as u8,
+                    at,
+                    block,
+                }),
+                Err(refusal) => Err(refusal),
+            }
+        }
         Err(refusal) => Err(refusal),
     }
 }
 
 /// Finds the block of a subband, and passes over it; none where nothing is coded. It depends on no other subband.
-#[tactic(auto, unfolding(crate::specs::Sites::site), using(dirac_bits::specs::Then::read_then))]
 pub fn find_site<'a>(r: &mut BitReader<'a>) -> Result<Option<Site<'a>>, Refusal>
     ensures value { ReadsSeenBy (λ s. s) result r.new (read site r.old) }
     ensures place_inside { IfErr result (λ e. e.at ≤ length r.old.bytes) }
@@ -86,12 +88,16 @@ pub fn find_site<'a>(r: &mut BitReader<'a>) -> Result<Option<Site<'a>>, Refusal>
     ensures block_inside { IfOk result (λ found. IfSome found (λ s. s.at ≤ length r.old.bytes)) }
 {
     r.align();
-    let len = r.uint()?;
-    if len == 0 {
-        return Ok(None);
-    }
-    match find_coded(r, len) {
-        Ok(site) => Ok(Some(site)),
+    match r.uint() {
+        Ok(len) => {
+            if len == 0 {
+                return Ok(None);
+            }
+            match find_coded(r, len) {
+                Ok(site) => Ok(Some(site)),
+                Err(refusal) => Err(refusal),
+            }
+        }
         Err(refusal) => Err(refusal),
     }
 }

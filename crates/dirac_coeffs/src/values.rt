@@ -1,9 +1,10 @@
 ghost use Rattle.std.specs.Prelude.{◌≡◌, ⊤, ◌+◌, ◌*◌, ◌^◌, ◌<◌, ◌≤◌, Bool, true, false, length, slice_set, IfOk};
-ghost use Rattle.std.specs.Prelude.{IfErr, OnErr};
+ghost use Rattle.std.specs.Prelude.{◌≢◌, IfErr, OnErr};
 ghost use Rattle.std.specs.Prelude.{Ok, Err};
 ghost use Rattle.dirac_arith.specs.Coded.{read_coded};
 ghost use Rattle.dirac_arith.specs.Deciding.{GivesReading, decision_read, signed_read};
 ghost use Rattle.dirac_arith.specs.Decoding.{reading_at};
+ghost use Rattle.dirac_arith.specs.Front.{front};
 ghost use Rattle.dirac_arith.specs.Reading.{Reading};
 ghost use Rattle.dirac_arith.specs.Registers.{Runs, doublings_of};
 ghost use Rattle.dirac_arith.specs.Spelling.{follow_at};
@@ -29,14 +30,6 @@ use dirac_common::{Band, Cause, LARGEST_TABLE_SIDE};
 struct Spot {
     column: usize,
     row: usize,
-}
-
-/// The values beside a coefficient by which its contexts are chosen, 0 outside the band.
-#[derive(Clone, Copy)]
-struct Neighbours {
-    left: i64,
-    above: i64,
-    corner: i64,
 }
 
 /// Reads a value behind its first decision, which says that it isn't 0.
@@ -68,36 +61,36 @@ struct ValueRead {
     registers: Registers,
 }
 
-/// Reads a value among these neighbours, from these registers on.
+/// How far a row is read: the value to the left of the next one, and the value above that.
+#[derive(Clone, Copy)]
+struct RowPlace {
+    left: ValueRead,
+    corner: i64,
+}
+
+/// Reads a value with this one above, and this one in its place in the parent.
 #[inline(always)]
 fn read_value(
     decoder: &mut Decoder<'_>,
-    registers: Registers,
+    place: RowPlace,
     band: Band,
-    neighbours: Neighbours,
+    above: i64,
     parent: i64,
 ) -> Result<ValueRead, Cause>
-    requires runs { Runs decoder.old.block registers }
-    requires no_overflow { doublings_of registers < 2 ^ 61 }
-    ensures read { IfOk result (λ v. signed_read
-        (follow_among neighbours.left neighbours.above neighbours.corner parent) bits_context
-        (sign_of (sign_neighbour band neighbours.left neighbours.above)) (reading_at decoder.old registers)
+    requires runs { Runs decoder.old.block place.left.registers }
+    requires no_overflow { doublings_of place.left.registers < 2 ^ 61 }
+    ensures read { IfOk result (λ v. signed_read (follow_among place.left.value above place.corner parent) bits_context
+        (sign_of (sign_neighbour band place.left.value above)) (reading_at decoder.old place.left.registers)
         ≡ Ok (v.value, reading_at decoder.new v.registers)) }
     ensures runs { IfOk result (λ v. Runs decoder.new.block v.registers) }
-    ensures few_doublings { IfOk result (λ v. doublings_of v.registers ≤ doublings_of registers + 702) }
-    ensures refused { IfErr result (λ cause. signed_read
-        (follow_among neighbours.left neighbours.above neighbours.corner parent) bits_context
-        (sign_of (sign_neighbour band neighbours.left neighbours.above)) (reading_at decoder.old registers)
-        ≡ Err cause) }
-    ensures few_then { OnErr result (decoder.new.at.doublings ≤ doublings_of registers + 702) }
+    ensures few_doublings { IfOk result (λ v. doublings_of v.registers ≤ doublings_of place.left.registers + 702) }
+    ensures refused { IfErr result (λ cause. signed_read (follow_among place.left.value above place.corner parent)
+        bits_context (sign_of (sign_neighbour band place.left.value above))
+        (reading_at decoder.old place.left.registers) ≡ Err cause) }
+    ensures few_then { OnErr result (decoder.new.at.doublings ≤ doublings_of place.left.registers + 702) }
 {
-    let Neighbours {
-        left,
-        above,
-        corner,
-    } = neighbours;
-    let first = contexts::first_among(left, above, corner, parent);
-    let decided = decoder.foreseen_from(registers, first);
+    let first = contexts::first_among(place.left.value, above, place.corner, parent);
+    let decided = decoder.foreseen_from(place.left.registers, first);
     if decided.truth {
         return Ok(ValueRead {
             value: 0,
@@ -105,7 +98,7 @@ fn read_value(
         });
     }
     decoder.resume(decided.registers);
-    match read_further(decoder, band, first, left, above) {
+    match read_further(decoder, band, first, place.left.value, above) {
         Ok(value) => Ok(ValueRead {
             value,
             registers: decoder.registers(),
@@ -114,58 +107,83 @@ fn read_value(
     }
 }
 
-/// Writes a value in 32 bits; false where it doesn't fit.
+/// Writes a value that was read in 32 bits; false where it doesn't fit.
 #[inline(always)]
-fn put_narrow(values: &mut [i32], place: usize, value: i64) -> bool
+fn put_narrow(values: &mut [i32], place: usize, read: ValueRead) -> bool
     requires { place < length values.old }
-    ensures written { result ≡ true → values.new ≡ slice_set values.old place value }
+    ensures written { result ≡ true → values.new ≡ slice_set values.old place read.value }
     ensures len { length values.new ≡ length values.old }
 {
-    let half = lower_half(value);
+    let half = lower_half(read.value);
     values[place] = half;
-    i64::from(half) == value
+    i64::from(half) == read.value
 }
 
-/// Reads the value in column `x` of row `y` among these neighbours of it, from these registers on.
+/// Row `y` before its value in column `x` is read.
+#[inline(always)]
+fn row_place(decoder: &Decoder<'_>, values: &[i32], width: usize, x: usize, y: usize) -> RowPlace
+    requires column { x ≤ width }
+    requires width { width ≤ LARGEST_TABLE_SIDE }
+    requires row { y < LARGEST_TABLE_SIDE }
+    requires inside { (y + 1) * width ≤ length values.now }
+    requires not_refused { front decoder.now.block 16 ≢ 0xFFFF }
+    ensures stands { reading_at decoder.now result.left.registers ≡ decoder.now }
+    ensures runs { Runs decoder.now.block result.left.registers }
+    ensures left { result.left.value ≡ value_left_of width values.now x y }
+    ensures corner { result.corner ≡ value_in_corner width values.now x y }
+{
+    RowPlace {
+        left: ValueRead {
+            value: contexts::left_value(Numbers::Narrow(values), width, x, y),
+            registers: decoder.registers(),
+        },
+        corner: contexts::corner_value(Numbers::Narrow(values), width, x, y),
+    }
+}
+
+/// Reads the value in this spot behind those before it in its row.
 #[inline(always)]
 fn read_at(
     decoder: &mut Decoder<'_>,
-    registers: Registers,
     values: &mut [i32],
     layout: BandLayout,
     parent: &[i32],
     at: Spot,
-    neighbours: Neighbours,
-) -> Result<ValueRead, Unread>
-    requires runs { Runs decoder.old.block registers }
+    place: RowPlace,
+) -> Result<RowPlace, Unread>
+    requires runs { Runs decoder.old.block place.left.registers }
     requires column { at.column < layout.width }
     requires width { layout.width ≤ LARGEST_TABLE_SIDE }
     requires row { at.row < LARGEST_TABLE_SIDE }
     requires inside { (at.row + 1) * layout.width ≤ length values.old }
-    requires left { neighbours.left ≡ value_left_of layout.width values.old at.column at.row }
-    requires above { neighbours.above ≡ value_above layout.width values.old at.column at.row }
-    requires corner { neighbours.corner ≡ value_in_corner layout.width values.old at.column at.row }
-    requires no_overflow { doublings_of registers < 2 ^ 61 }
-    ensures value { IfOk result (λ v. read_coded (value_step (frame_of layout parent.now) at.column at.row values.old)
-        (reading_at decoder.old registers) ≡ Ok (values.new, reading_at decoder.new v.registers)) }
-    ensures runs { IfOk result (λ v. Runs decoder.new.block v.registers) }
-    ensures few_doublings { IfOk result (λ v. doublings_of v.registers ≤ doublings_of registers + 702) }
-    ensures written { IfOk result (λ v. values.new ≡ slice_set values.old (at.row * layout.width + at.column) v.value) }
+    requires left { place.left.value ≡ value_left_of layout.width values.old at.column at.row }
+    requires corner { place.corner ≡ value_in_corner layout.width values.old at.column at.row }
+    requires no_overflow { doublings_of place.left.registers < 2 ^ 61 }
+    ensures value { IfOk result (λ p. read_coded (value_step (frame_of layout parent.now) at.column at.row values.old)
+        (reading_at decoder.old place.left.registers) ≡ Ok (values.new, reading_at decoder.new p.left.registers)) }
+    ensures runs { IfOk result (λ p. Runs decoder.new.block p.left.registers) }
+    ensures few_doublings { IfOk result (λ p. doublings_of p.left.registers ≤ doublings_of place.left.registers + 702) }
+    ensures left { IfOk result (λ p. p.left.value ≡ value_left_of layout.width values.new (at.column + 1) at.row) }
+    ensures corner { IfOk result (λ p. p.corner ≡ value_in_corner layout.width values.new (at.column + 1) at.row) }
     ensures len { length values.new ≡ length values.old }
     ensures refused { IfErr result
         (λ e. RefusedBy ⊤ e (read_coded (value_step (frame_of layout parent.now) at.column at.row
-        values.old) (reading_at decoder.old registers))) }
-    ensures few_then { OnErr result (decoder.new.at.doublings ≤ doublings_of registers + 702) }
+        values.old) (reading_at decoder.old place.left.registers))) }
+    ensures few_then { OnErr result (decoder.new.at.doublings ≤ doublings_of place.left.registers + 702) }
 {
     let width = layout.width as usize;
+    let above = contexts::above_value(Numbers::Narrow(values), width, at.column, at.row);
     let parent = contexts::parent_value(Numbers::Narrow(parent), width, at.column, at.row);
-    match read_value(decoder, registers, layout.band, neighbours, parent) {
+    match read_value(decoder, place, layout.band, above, parent) {
         Ok(read) => {
-            if !put_narrow(values, at.row * width + at.column, read.value) {
+            if !put_narrow(values, at.row * width + at.column, read) {
                 decoder.resume(read.registers);
                 return Err(Unread::TooWide);
             }
-            Ok(read)
+            Ok(RowPlace {
+                left: read,
+                corner: above,
+            })
         }
         Err(cause) => Err(Unread::Refused(cause)),
     }
@@ -199,30 +217,17 @@ pub fn read_narrow_row(
     if decoder.is_refused() {
         return Err(Unread::Refused(Cause::CodeWord));
     }
-    let width = layout.width as usize;
-    let mut left = contexts::left_value(Numbers::Narrow(values), width, columns.start, y);
-    let mut corner = contexts::corner_value(Numbers::Narrow(values), width, columns.start, y);
-    let mut registers = decoder.registers();
+    let mut place = row_place(decoder, values, layout.width as usize, columns.start, y);
     'values: for i in 0..columns.length {
         let at = Spot {
             column: columns.start + i,
             row: y,
         };
-        let above = contexts::above_value(Numbers::Narrow(values), width, at.column, y);
-        let neighbours = Neighbours {
-            left,
-            above,
-            corner,
-        };
-        match read_at(decoder, registers, values, layout, parent, at, neighbours) {
-            Ok(read) => {
-                left = read.value;
-                corner = above;
-                registers = read.registers;
-            }
-            Err(e) => return Err(e),
+        match read_at(decoder, values, layout, parent, at, place) {
+            Ok(next) => place = next,
+            Err(unread) => return Err(unread),
         }
     }
-    decoder.resume(registers);
+    decoder.resume(place.left.registers);
     Ok(())
 }

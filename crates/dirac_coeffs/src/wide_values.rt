@@ -1,14 +1,16 @@
 ghost use Rattle.std.specs.Prelude.{◌≡◌, ◌+◌, ◌*◌, ◌^◌, ◌<◌, ◌≤◌, length};
 ghost use Rattle.dirac_arith.specs.Coded.{read_coded};
-ghost use Rattle.dirac_coeffs.specs.Answers.{Moves};
+ghost use Rattle.dirac_coeffs.specs.Answers.{Goes, Moves};
 ghost use Rattle.dirac_coeffs.specs.BandRead.{value_step, row_step};
 ghost use Rattle.dirac_coeffs.specs.Decisions.{frame_of};
 ghost use Rattle.dirac_coeffs.specs.Lent.{numbers_in};
 
 use crate::contexts;
+use crate::contexts::Neighbours;
 use crate::layout::BandLayout;
 use crate::numbers::Numbers;
 use crate::spans::Span;
+use crate::store::Unread;
 use dirac_arith::{COEFFICIENT_DIGITS, Decoder};
 use dirac_common::{Cause, LARGEST_TABLE_SIDE};
 
@@ -33,9 +35,11 @@ fn read_wide_value(
     ensures few_doublings { decoder.new.at.doublings ≤ decoder.old.at.doublings + 702 }
 {
     let width = layout.width as usize;
-    let left = contexts::left_value(Numbers::Wide(values), width, x, y);
-    let above = contexts::above_value(Numbers::Wide(values), width, x, y);
-    let corner = contexts::corner_value(Numbers::Wide(values), width, x, y);
+    let Neighbours {
+        left,
+        above,
+        corner,
+    } = contexts::neighbours_at(Numbers::Wide(values), width, x, y);
     let parent = contexts::parent_value(parent, width, x, y);
     let follow = contexts::follow_among(left, above, corner, parent);
     let sign = contexts::sign_context(layout.band, left, above);
@@ -56,20 +60,23 @@ pub fn read_wide_row(
     parent: Numbers<'_>,
     y: usize,
     columns: Span,
-) -> Result<(), Cause>
+) -> Result<(), Unread>
     requires columns { columns.start + columns.length ≤ layout.width }
     requires width { layout.width ≤ LARGEST_TABLE_SIDE }
     requires row { y < LARGEST_TABLE_SIDE }
     requires inside { (y + 1) * layout.width ≤ length values.old }
     requires no_overflow { decoder.old.at.doublings < 2 ^ 60 }
-    ensures value { Moves result values.new decoder.new
+    ensures value { Goes ⊥ result values.new decoder.new
         (read_coded (row_step (frame_of layout (numbers_in parent.entry)) y
         columns.start columns.length values.old) decoder.old) }
     ensures len { length values.new ≡ length values.old }
     ensures few_doublings { decoder.new.at.doublings ≤ decoder.old.at.doublings + 702 * columns.length }
 {
     'values: for i in 0..columns.length {
-        read_wide_value(decoder, values, layout, parent, columns.start + i, y)?;
+        match read_wide_value(decoder, values, layout, parent, columns.start + i, y) {
+            Ok(()) => {}
+            Err(cause) => return Err(Unread::Refused(cause)),
+        }
     }
     Ok(())
 }

@@ -18,3 +18,18 @@ read_at-requires-clause-parent c = c.requires.parent
 
 pub read_at-requires-clause-index : goal.read_at-requires-clause-index
 read_at-requires-clause-index c = c.in-Ok.ensures.index
+
+pub returns-in-Ok-clause-kept : goal.returns-in-Ok-clause-kept
+returns-in-Ok-clause-kept c = c.find_site.ensures.kept
+
+pub returns-in-Ok-clause-lawful : goal.returns-in-Ok-clause-lawful
+returns-in-Ok-clause-lawful c = c.read_at.ensures.lawful
+
+pub returns-in-Err-clause-kept : goal.returns-in-Err-clause-kept
+returns-in-Err-clause-kept c = c.find_site.ensures.kept
+
+pub returns-in-Err-clause-lawful : goal.returns-in-Err-clause-lawful
+returns-in-Err-clause-lawful c = tt
+
+pub returns-in-Err-clause-place_inside : goal.returns-in-Err-clause-place_inside
+returns-in-Err-clause-place_inside c = c.in-Err.ensures.place_inside

@@ -1,5 +1,5 @@
-use Rattle.dirac_coeffs.specs.BandRead.{band_read, band_content}
-use Rattle.dirac_coeffs.specs.Lent.{IsNarrow, numbers_in, values_in}
+use Rattle.dirac_coeffs.specs.BandRead.{band_read}
+use Rattle.dirac_coeffs.specs.Lent.{IsNarrow, content_in, numbers_in}
 use Rattle.dirac_coeffs.proofs.Read.{block_held, block_stopped, some_held, some_stopped}
 use Rattle.dirac_coeffs.proofs.block.read_as.Goals as goal
 
@@ -17,15 +17,24 @@ held_block-requires-clause-len c = c.read_content.ensures.len
 
 pub returns-in-Ok-clause-value : goal.returns-in-Ok-clause-value
 returns-in-Ok-clause-value c =
-    block_held c.args.layout c.args.at c.held_block.result (band_content (values_in c.read_content.new.values) c.read_content.new.indices) (band_read c.args.layout (numbers_in c.args.parent) c.args.index c.args.block.now) c.held_block.ensures c.in-Ok.ensures.value
+    block_held c.args.frame.layout c.args.at c.held_block.result (content_in c.read_content.new.filling) (band_read c.args.frame.layout (numbers_in c.args.frame.parent) c.args.frame.index c.args.block.now) c.held_block.ensures c.in-Ok.ensures.value
 
 pub returns-in-Ok-clause-some : goal.returns-in-Ok-clause-some
-returns-in-Ok-clause-some c = λ wide. some_held c.args.layout c.held_block.result (band_content (values_in c.read_content.new.values) c.read_content.new.indices) c.held_block.ensures
+returns-in-Ok-clause-some c = λ wide. some_held c.args.frame.layout c.held_block.result (content_in c.read_content.new.filling) c.held_block.ensures
 
 pub returns-in-Err-clause-value : goal.returns-in-Err-clause-value
 returns-in-Err-clause-value c =
-    rw c.stopped.ensures (block_stopped c.args.layout c.args.at (IsNarrow c.read_content.new.values) c.in-Err.unread (band_read c.args.layout (numbers_in c.args.parent) c.args.index c.args.block.now) c.in-Err.ensures.value)
+    rw c.stopped.ensures (block_stopped c.args.frame.layout c.args.at (IsNarrow c.read_content.new.filling.values) c.in-Err.unread (band_read c.args.frame.layout (numbers_in c.args.frame.parent) c.args.frame.index c.args.block.now) c.in-Err.ensures.value)
 
 pub returns-in-Err-clause-some : goal.returns-in-Err-clause-some
 returns-in-Err-clause-some c = λ wide.
-    rw c.stopped.ensures (some_stopped c.args.at (IsNarrow c.read_content.new.values) c.in-Err.unread (band_read c.args.layout (numbers_in c.args.parent) c.args.index c.args.block.now) c.in-Err.ensures.value (λ n. c.in_ok-values.ensures.wide wide (c.read_content.ensures.narrow n)))
+    rw c.stopped.ensures (some_stopped c.args.at (IsNarrow c.read_content.new.filling.values) c.in-Err.unread (band_read c.args.frame.layout (numbers_in c.args.frame.parent) c.args.frame.index c.args.block.now) c.in-Err.ensures.value (λ n. c.in_ok-values.ensures.wide wide (c.read_content.ensures.narrow n)))
+
+pub equal_indices-requires : goal.equal_indices-requires
+equal_indices-requires c = c.requires.layout
+
+pub read_content-requires-clause-layout : goal.read_content-requires-clause-layout
+read_content-requires-clause-layout c = c.requires.layout
+
+pub zeros-requires : goal.zeros-requires
+zeros-requires c = record { layout = c.requires.layout }

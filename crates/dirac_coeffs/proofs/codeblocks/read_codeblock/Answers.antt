@@ -1,12 +1,11 @@
 use Rattle.std.proofs.Common.{arith, refl}
-use Rattle.dirac_coeffs.specs.BandRead.{band_content}
-use Rattle.dirac_coeffs.specs.Lent.{IsNarrow, numbers_in, values_in}
+use Rattle.dirac_coeffs.specs.Lent.{IsNarrow, content_in, numbers_in}
 use Rattle.dirac_coeffs.proofs.OffsetsRead.{block_refused, block_skipped, block_unskipped}
 use Rattle.dirac_coeffs.proofs.codeblocks.read_codeblock.Goals as goal
 
 pub returns-then-skipped-clause-value : goal.returns-then-skipped-clause-value
 returns-then-skipped-clause-value c =
-    block_skipped c.args.layout (numbers_in c.args.parent) c.args.index c.args.codeblock.row c.args.codeblock.column (band_content (values_in c.args.values.now) c.args.indices.now) c.note_former.new.indices
+    block_skipped c.args.frame.layout (numbers_in c.args.frame.parent) c.args.frame.index c.args.codeblock.row c.args.codeblock.column (content_in c.args.filling.now) c.note_former.new.indices
     c.args.decoder.now c.read_flag.new.decoder c.in-Ok.skipped c.in-Ok.ensures.value c.if-skipped.true c.note_former.ensures.value
 
 pub returns-then-skipped-clause-len : goal.returns-then-skipped-clause-len
@@ -23,8 +22,8 @@ returns-then-skipped-clause-few_doublings c = omega (arith, c.read_flag.ensures.
 
 pub returns-else-skipped-clause-value : goal.returns-else-skipped-clause-value
 returns-else-skipped-clause-value c =
-    block_unskipped (IsNarrow c.read_unskipped.new.values) c.read_unskipped.result c.args.layout (numbers_in c.args.parent) c.args.index c.args.codeblock.row c.args.codeblock.column
-    (band_content (values_in c.args.values.now) c.args.indices.now) (band_content (values_in c.read_unskipped.new.values) c.read_unskipped.new.indices)
+    block_unskipped (IsNarrow c.read_unskipped.new.filling.values) c.read_unskipped.result c.args.frame.layout (numbers_in c.args.frame.parent) c.args.frame.index c.args.codeblock.row c.args.codeblock.column
+    (content_in c.args.filling.now) (content_in c.read_unskipped.new.filling)
     c.args.decoder.now c.read_flag.new.decoder c.read_unskipped.new.decoder c.in-Ok.skipped c.in-Ok.ensures.value c.if-skipped.false c.read_unskipped.ensures.value
 
 pub returns-else-skipped-clause-len : goal.returns-else-skipped-clause-len
@@ -41,7 +40,7 @@ returns-else-skipped-clause-few_doublings c = omega (arith, c.read_flag.ensures.
 
 pub returns-in-Err-clause-value : goal.returns-in-Err-clause-value
 returns-in-Err-clause-value c =
-    block_refused c.args.layout (numbers_in c.args.parent) c.args.index c.args.codeblock.row c.args.codeblock.column (band_content (values_in c.args.values.now) c.args.indices.now)
+    block_refused c.args.frame.layout (numbers_in c.args.frame.parent) c.args.frame.index c.args.codeblock.row c.args.codeblock.column (content_in c.args.filling.now)
     c.args.decoder.now c.read_flag.new.decoder c.in-Err.cause c.in-Err.ensures.value
 
 pub returns-in-Err-clause-len : goal.returns-in-Err-clause-len

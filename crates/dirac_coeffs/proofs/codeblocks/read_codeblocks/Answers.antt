@@ -1,8 +1,7 @@
 use Rattle.std.proofs.Common.{◌+◌, ◌∙◌, arith, refl}
-use Rattle.std.proofs.lemmas.Result.{err_from_is_err_and}
 use Rattle.dirac_arith.proofs.CodedValues.{repeated_none, repeated_next}
-use Rattle.dirac_coeffs.specs.BandRead.{band_content, block_step}
-use Rattle.dirac_coeffs.specs.Lent.{IsNarrow, numbers_in, values_in}
+use Rattle.dirac_coeffs.specs.BandRead.{block_step}
+use Rattle.dirac_coeffs.specs.Lent.{IsNarrow, content_in, numbers_in}
 use Rattle.dirac_coeffs.proofs.Edges.{edge_most, span_end}
 use Rattle.dirac_coeffs.proofs.Steps.{repeated_unread}
 use Rattle.dirac_coeffs.proofs.codeblocks.read_codeblocks.Goals as goal
@@ -10,7 +9,7 @@ use Rattle.dirac_coeffs.proofs.codeblocks.read_codeblocks.Goals as goal
 pub across-init : goal.across-init
 across-init c =
     record {
-      value = repeated_none (block_step c.args.layout (numbers_in c.args.parent) c.args.index c.args.cy) (band_content (values_in c.args.values.now) c.args.indices.now) c.args.decoder.now;
+      value = repeated_none (block_step c.args.frame.layout (numbers_in c.args.frame.parent) c.args.frame.index c.args.cy) (content_in c.args.filling.now) c.args.decoder.now;
       len = refl;
       narrow = λ n. n;
       count = refl;
@@ -21,27 +20,25 @@ pub across-preserved : goal.across-preserved
 across-preserved c =
     record {
       value =
-          repeated_next (block_step c.args.layout (numbers_in c.args.parent) c.args.index c.args.cy) c.across.cx (band_content (values_in c.args.values.now) c.args.indices.now) c.args.decoder.now (band_content (values_in c.across.values) c.across.indices) c.across.decoder _ c.across.invariant.value c.in_ok-read_codeblock.ensures.value;
+          repeated_next (block_step c.args.frame.layout (numbers_in c.args.frame.parent) c.args.frame.index c.args.cy) c.across.cx (content_in c.args.filling.now) c.args.decoder.now (content_in c.across.filling) c.across.decoder _ c.across.invariant.value c.in-Ok.ensures.value;
       len = c.read_codeblock.ensures.len ∙ c.across.invariant.len;
       narrow = λ n. c.across.invariant.narrow (c.read_codeblock.ensures.narrow n);
       count = c.read_codeblock.ensures.count ∙ c.across.invariant.count;
-      few_doublings = omega (arith, c.read_codeblock.ensures.few_doublings, c.across.invariant.few_doublings, span_end c.args.layout.width c.args.layout.across c.across.cx (omega arith));
+      few_doublings = omega (arith, c.read_codeblock.ensures.few_doublings, c.across.invariant.few_doublings, span_end c.args.frame.layout.width c.args.frame.layout.across c.across.cx (omega arith));
     }
 
-pub returns-in_err-read_codeblock-clause-value : goal.returns-in_err-read_codeblock-clause-value
-returns-in_err-read_codeblock-clause-value c =
-    let p = err_from_is_err_and c.from_residual.result c.from_residual.ensures.1 in
-    rw (p.1, p.2)
-    (repeated_unread (IsNarrow c.read_codeblock.new.values) (block_step c.args.layout (numbers_in c.args.parent) c.args.index c.args.cy) c.across.cx c.args.layout.across (band_content (values_in c.args.values.now) c.args.indices.now) c.args.decoder.now (band_content (values_in c.across.values) c.across.indices) c.across.decoder _ (omega arith) c.across.invariant.value c.in_err-read_codeblock.ensures.value)
+pub returns-in-Err-clause-value : goal.returns-in-Err-clause-value
+returns-in-Err-clause-value c =
+    (repeated_unread (IsNarrow c.read_codeblock.new.filling.values) (block_step c.args.frame.layout (numbers_in c.args.frame.parent) c.args.frame.index c.args.cy) c.across.cx c.args.frame.layout.across (content_in c.args.filling.now) c.args.decoder.now (content_in c.across.filling) c.across.decoder _ (omega arith) c.across.invariant.value c.in-Err.ensures.value)
 
-pub returns-in_err-read_codeblock-clause-few_doublings : goal.returns-in_err-read_codeblock-clause-few_doublings
-returns-in_err-read_codeblock-clause-few_doublings c =
-    let w = c.args.layout.width in
+pub returns-in-Err-clause-few_doublings : goal.returns-in-Err-clause-few_doublings
+returns-in-Err-clause-few_doublings c =
+    let w = c.args.frame.layout.width in
     let n = c.across.cx in
-    omega (arith, c.read_codeblock.ensures.few_doublings, c.across.invariant.few_doublings, span_end w c.args.layout.across n (omega arith), edge_most w c.args.layout.across (n + 1) (omega arith) (omega arith))
+    omega (arith, c.read_codeblock.ensures.few_doublings, c.across.invariant.few_doublings, span_end w c.args.frame.layout.across n (omega arith), edge_most w c.args.frame.layout.across (n + 1) (omega arith) (omega arith))
 
 pub returns-clause-few_doublings : goal.returns-clause-few_doublings
-returns-clause-few_doublings c = omega (arith, c.across.invariant.few_doublings, edge_most c.args.layout.width c.args.layout.across c.across.cx (omega arith) (omega arith))
+returns-clause-few_doublings c = omega (arith, c.across.invariant.few_doublings, edge_most c.args.frame.layout.width c.args.frame.layout.across c.across.cx (omega arith) (omega arith))
 
 pub read_codeblock-requires-clause-layout : goal.read_codeblock-requires-clause-layout
 read_codeblock-requires-clause-layout c = c.requires.layout
@@ -55,14 +52,14 @@ read_codeblock-requires-clause-len c = c.across.invariant.len ∙ c.requires.len
 pub read_codeblock-requires-clause-count : goal.read_codeblock-requires-clause-count
 read_codeblock-requires-clause-count c = c.across.invariant.count ∙ c.requires.count
 
-pub returns-in_err-read_codeblock-clause-len : goal.returns-in_err-read_codeblock-clause-len
-returns-in_err-read_codeblock-clause-len c = c.read_codeblock.ensures.len ∙ c.across.invariant.len
+pub returns-in-Err-clause-len : goal.returns-in-Err-clause-len
+returns-in-Err-clause-len c = c.read_codeblock.ensures.len ∙ c.across.invariant.len
 
-pub returns-in_err-read_codeblock-clause-narrow : goal.returns-in_err-read_codeblock-clause-narrow
-returns-in_err-read_codeblock-clause-narrow c = λ n. c.across.invariant.narrow (c.read_codeblock.ensures.narrow n)
+pub returns-in-Err-clause-narrow : goal.returns-in-Err-clause-narrow
+returns-in-Err-clause-narrow c = λ n. c.across.invariant.narrow (c.read_codeblock.ensures.narrow n)
 
-pub returns-in_err-read_codeblock-clause-count : goal.returns-in_err-read_codeblock-clause-count
-returns-in_err-read_codeblock-clause-count c = c.read_codeblock.ensures.count ∙ c.across.invariant.count
+pub returns-in-Err-clause-count : goal.returns-in-Err-clause-count
+returns-in-Err-clause-count c = c.read_codeblock.ensures.count ∙ c.across.invariant.count
 
 pub returns-clause-len : goal.returns-clause-len
 returns-clause-len c = c.across.invariant.len
@@ -74,4 +71,7 @@ pub returns-clause-count : goal.returns-clause-count
 returns-clause-count c = c.across.invariant.count
 
 pub read_codeblock-requires-clause-no_overflow : goal.read_codeblock-requires-clause-no_overflow
-read_codeblock-requires-clause-no_overflow c = omega (arith, c.across.invariant.few_doublings, c.requires.no_overflow, c.requires.layout.width, c.requires.layout.across, edge_most c.args.layout.width c.args.layout.across c.across.cx (omega arith) (omega arith))
+read_codeblock-requires-clause-no_overflow c = omega (arith, c.across.invariant.few_doublings, c.requires.no_overflow, c.requires.layout.width, c.requires.layout.across, edge_most c.args.frame.layout.width c.args.frame.layout.across c.across.cx (omega arith) (omega arith))
+
+pub read_codeblock-requires-clause-column : goal.read_codeblock-requires-clause-column
+read_codeblock-requires-clause-column c = omega arith

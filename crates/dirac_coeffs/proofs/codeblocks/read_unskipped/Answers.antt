@@ -1,17 +1,16 @@
 use Rattle.std.proofs.Common.{arith, refl}
-use Rattle.dirac_coeffs.specs.Lent.{IsNarrow, numbers_in, values_in}
-use Rattle.dirac_coeffs.specs.BandRead.{band_content}
+use Rattle.dirac_coeffs.specs.Lent.{IsNarrow, content_in, numbers_in, values_in}
 use Rattle.dirac_coeffs.proofs.OffsetsRead.{unskipped_moves, unskipped_stops}
 use Rattle.dirac_coeffs.proofs.codeblocks.read_unskipped.Goals as goal
 
 pub returns-in-Ok-clause-value : goal.returns-in-Ok-clause-value
 returns-in-Ok-clause-value c =
-    unskipped_moves (IsNarrow c.read_block_values.new.values) c.read_block_values.result c.args.layout (numbers_in c.args.parent) c.args.index c.args.codeblock.row c.args.codeblock.column (values_in c.args.values.now) (values_in c.read_block_values.new.values) c.args.indices.now c.read_offset.new.indices c.args.decoder.now c.read_offset.new.decoder c.read_block_values.new.decoder
+    unskipped_moves (IsNarrow c.read_block_values.new.values) c.read_block_values.result c.args.frame.layout (numbers_in c.args.frame.parent) c.args.frame.index c.args.codeblock.row c.args.codeblock.column (values_in c.args.filling.now.values) (values_in c.read_block_values.new.values) c.args.filling.now.indices c.read_offset.new.indices c.args.decoder.now c.read_offset.new.decoder c.read_block_values.new.decoder
     c.in-Ok.ensures.value c.read_block_values.ensures.value
 
 pub returns-in-Err-clause-value : goal.returns-in-Err-clause-value
 returns-in-Err-clause-value c =
-    unskipped_stops c.args.layout (numbers_in c.args.parent) c.args.index c.args.codeblock.row c.args.codeblock.column (band_content (values_in c.args.values.now) c.args.indices.now) c.args.decoder.now c.in-Err.cause c.in-Err.ensures.value
+    unskipped_stops c.args.frame.layout (numbers_in c.args.frame.parent) c.args.frame.index c.args.codeblock.row c.args.codeblock.column (content_in c.args.filling.now) c.args.decoder.now c.in-Err.cause c.in-Err.ensures.value
 
 pub read_offset-requires-clause-layout : goal.read_offset-requires-clause-layout
 read_offset-requires-clause-layout c = c.requires.layout

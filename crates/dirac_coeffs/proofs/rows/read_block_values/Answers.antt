@@ -1,6 +1,5 @@
 use Rattle.std.proofs.Common.{◌≡◌, ℕ, ◌+◌, ◌∙◌, Ok, arith, length, refl, subst, sym}
 use Rattle.std.proofs.lemmas.Nat.{mul-le}
-use Rattle.std.proofs.lemmas.Result.{err_from_is_err_and}
 use Rattle.dirac_arith.specs.Coded.{read_coded}
 use Rattle.dirac_arith.proofs.CodedValues.{repeated_none, repeated_next}
 use Rattle.dirac_coeffs.specs.BandRead.{row_step, rows_step}
@@ -52,27 +51,25 @@ pub rows-preserved : goal.rows-preserved
 rows-preserved c =
     record {
       value =
-          repeated_next (λ j. row_step (frame_of c.args.layout (numbers_in c.args.parent)) (c.codeblock_span-rows.result.start + j) c.codeblock_span-columns.result.start c.codeblock_span-columns.result.length) c.rows.j (values_in c.args.values.now) c.args.decoder.now (values_in c.rows.values) c.rows.decoder _ c.rows.invariant.value c.in_ok-read_row.ensures.value;
+          repeated_next (λ j. row_step (frame_of c.args.layout (numbers_in c.args.parent)) (c.codeblock_span-rows.result.start + j) c.codeblock_span-columns.result.start c.codeblock_span-columns.result.length) c.rows.j (values_in c.args.values.now) c.args.decoder.now (values_in c.rows.values) c.rows.decoder _ c.rows.invariant.value c.in-Ok.ensures.value;
       len = c.read_row.ensures.len ∙ c.rows.invariant.len;
       narrow = λ n. c.rows.invariant.narrow (c.read_row.ensures.narrow n);
       few_doublings = omega (arith, c.read_row.ensures.few_doublings);
     }
 
-pub returns-in_err-read_row-clause-value : goal.returns-in_err-read_row-clause-value
-returns-in_err-read_row-clause-value c =
-    let p = err_from_is_err_and c.from_residual.result c.from_residual.ensures.1 in
-    rw (p.1, p.2)
+pub returns-in-Err-clause-value : goal.returns-in-Err-clause-value
+returns-in-Err-clause-value c =
     (rw (sym c.codeblock_span-columns.ensures.length, sym c.codeblock_span-columns.ensures.start, sym c.codeblock_span-rows.ensures.length, sym c.codeblock_span-rows.ensures.start)
-    (repeated_unread (IsNarrow c.read_row.new.values) (λ j. row_step (frame_of c.args.layout (numbers_in c.args.parent)) (c.codeblock_span-rows.result.start + j) c.codeblock_span-columns.result.start c.codeblock_span-columns.result.length) c.rows.j c.codeblock_span-rows.result.length (values_in c.args.values.now) c.args.decoder.now (values_in c.rows.values) c.rows.decoder _ (omega arith) c.rows.invariant.value c.in_err-read_row.ensures.value))
+    (repeated_unread (IsNarrow c.read_row.new.values) (λ j. row_step (frame_of c.args.layout (numbers_in c.args.parent)) (c.codeblock_span-rows.result.start + j) c.codeblock_span-columns.result.start c.codeblock_span-columns.result.length) c.rows.j c.codeblock_span-rows.result.length (values_in c.args.values.now) c.args.decoder.now (values_in c.rows.values) c.rows.decoder _ (omega arith) c.rows.invariant.value c.in-Err.ensures.value))
 
-pub returns-in_err-read_row-clause-len : goal.returns-in_err-read_row-clause-len
-returns-in_err-read_row-clause-len c = c.read_row.ensures.len ∙ c.rows.invariant.len
+pub returns-in-Err-clause-len : goal.returns-in-Err-clause-len
+returns-in-Err-clause-len c = c.read_row.ensures.len ∙ c.rows.invariant.len
 
-pub returns-in_err-read_row-clause-narrow : goal.returns-in_err-read_row-clause-narrow
-returns-in_err-read_row-clause-narrow c = λ n. c.rows.invariant.narrow (c.read_row.ensures.narrow n)
+pub returns-in-Err-clause-narrow : goal.returns-in-Err-clause-narrow
+returns-in-Err-clause-narrow c = λ n. c.rows.invariant.narrow (c.read_row.ensures.narrow n)
 
-pub returns-in_err-read_row-clause-few_doublings : goal.returns-in_err-read_row-clause-few_doublings
-returns-in_err-read_row-clause-few_doublings c =
+pub returns-in-Err-clause-few_doublings : goal.returns-in-Err-clause-few_doublings
+returns-in-Err-clause-few_doublings c =
     omega (arith, c.rows.invariant.few_doublings, c.read_row.ensures.few_doublings, c.codeblock_span-columns.ensures.length, mul-le (c.rows.j + 1) c.codeblock_span-columns.result.length 8192 c.codeblock_span-columns.result.length (omega (arith, c.codeblock_span-rows.ensures.inside, c.requires.layout.height)) (omega arith))
 
 pub returns-clause-value : goal.returns-clause-value

@@ -1,7 +1,5 @@
-use Rattle.std.proofs.Common.{◌≡◌, ◌+◌, ◌∙◌, ℕ, ℤ, List, Result, Ok, Err, to_z, of_z, arith, rules, ap, refl, subst, sym}
-use Rattle.std.specs.Int.{w64}
+use Rattle.std.proofs.Common.{◌≡◌, ◌+◌, ◌∙◌, ℕ, ℤ, List, Result, Ok, Err, arith, ap, refl, subst, sym}
 use Rattle.std.specs.Prelude.{⊤}
-use Rattle.std.proofs.lemmas.Int.{to_z-of_z}
 use Rattle.dirac_common.specs.declared.faults.Cause.{Cause}
 use Rattle.dirac_common.specs.declared.faults.Cause.TheVariants as cause
 use Rattle.dirac_arith.specs.Coded.{Coded, read_coded}
@@ -13,7 +11,6 @@ use Rattle.dirac_arith.proofs.Decidings.{signed_is_shut}
 use Rattle.dirac_coeffs.specs.BandRead.{value_step, row_step}
 use Rattle.dirac_coeffs.specs.Contexts.{bits_context, value_in_corner, value_left_of}
 use Rattle.dirac_coeffs.specs.Decisions.{Frame, frame_of, follow_here, sign_here}
-use Rattle.dirac_coeffs.proofs.Carrying.{corner_next, left_next}
 use Rattle.dirac_coeffs.proofs.Steps.{repeated_unread}
 use Rattle.dirac_coeffs.proofs.values.read_narrow_row.Goals as goal
 
@@ -36,45 +33,9 @@ returns-then-is_refused-clause-value c =
     repeated_stops step 0 c.args.columns.length xs r xs r cause.CodeWord (omega arith) (repeated_none step xs r)
     (value_refused f (c.args.columns.start + 0) c.args.y xs r (c.is_refused.ensures.refused c.if-is_refused.true))
 
-pub values-init : goal.values-init
-values-init c =
-    let same : c.args.columns.start ≡ c.args.columns.start + 0 = omega arith in
-    let here = c.registers-registers.ensures in
-    let left : to_z w64 (of_z w64 c.left_value-left.result) ≡ c.left_value-left.result = to_z-of_z w64 _ (record { sfits = c.left_value-left.type_inv }) in
-    let corner : to_z w64 (of_z w64 c.corner_value-corner.result) ≡ c.corner_value-corner.result = to_z-of_z w64 _ (record { sfits = c.corner_value-corner.type_inv }) in
-    record {
-      value =
-          repeated_none (λ i. value_step (frame_of c.args.layout c.args.parent.now) (c.args.columns.start + i) c.args.y) c.args.values.now c.args.decoder.now
-          ∙ ap (λ (r : Reading). let x : Result (List ℤ × Reading) Cause = Ok (c.args.values.now, r) in x) (sym here.stands);
-      runs = here.runs;
-      len = refl;
-      few_doublings = omega (arith, ap (λ (r : Reading). r.at.doublings) here.stands);
-      left = left ∙ c.left_value-left.ensures ∙ ap (λ x. value_left_of c.args.layout.width c.args.values.now x c.args.y) same;
-      corner = corner ∙ c.corner_value-corner.ensures ∙ ap (λ x. value_in_corner c.args.layout.width c.args.values.now x c.args.y) same;
-    }
-
-pub values-preserved : goal.values-preserved
-values-preserved c =
-    let w = c.args.layout.width in
-    let x = c.args.columns.start + c.values.i in
-    let y = c.args.y in
-    let next : c.args.columns.start + (c.values.i + 1) ≡ x + 1 = omega arith in
-    let written = sym c.in-Ok.ensures.written in
-    let value : to_z w64 (of_z w64 c.in-Ok.read.value) ≡ c.in-Ok.read.value = search rules in
-    let above : to_z w64 (of_z w64 c.above_value-above.result) ≡ c.above_value-above.result = to_z-of_z w64 _ (record { sfits = c.above_value-above.type_inv }) in
-    record {
-      value =
-          repeated_next (λ i. value_step (frame_of c.args.layout c.args.parent.now) (c.args.columns.start + i) c.args.y) c.values.i c.args.values.now c.args.decoder.now c.values.values (reading_at c.values.decoder c.values.registers) _ c.values.invariant.value c.in-Ok.ensures.value;
-      runs = c.in-Ok.ensures.runs;
-      len = c.read_at.ensures.len ∙ c.values.invariant.len;
-      few_doublings = omega (arith, c.values.invariant.few_doublings, c.in-Ok.ensures.few_doublings);
-      left = value ∙ subst (λ (xs : List ℤ). c.in-Ok.read.value ≡ value_left_of w xs (c.args.columns.start + (c.values.i + 1)) y) written (left_next w c.values.values x y (c.args.columns.start + (c.values.i + 1)) c.in-Ok.read.value (omega arith) next);
-      corner = above ∙ subst (λ (xs : List ℤ). c.above_value-above.result ≡ value_in_corner w xs (c.args.columns.start + (c.values.i + 1)) y) written (corner_next w c.values.values x y (c.args.columns.start + (c.values.i + 1)) c.in-Ok.read.value c.above_value-above.result (omega arith) c.above_value-above.ensures next);
-    }
-
 pub returns-in-Err-clause-value : goal.returns-in-Err-clause-value
 returns-in-Err-clause-value c =
-    repeated_unread ⊤ (λ i. value_step (frame_of c.args.layout c.args.parent.now) (c.args.columns.start + i) c.args.y) c.values.i c.args.columns.length c.args.values.now c.args.decoder.now c.values.values (reading_at c.values.decoder c.values.registers) c.in-Err.e (omega arith) c.values.invariant.value c.in-Err.ensures.refused
+    repeated_unread ⊤ (λ i. value_step (frame_of c.args.layout c.args.parent.now) (c.args.columns.start + i) c.args.y) c.values.i c.args.columns.length c.args.values.now c.args.decoder.now c.values.values (reading_at c.values.decoder c.values.place.left.registers) c.in-Err.unread (omega arith) c.values.invariant.value c.in-Err.ensures.refused
 
 pub returns-in-Err-clause-few_doublings : goal.returns-in-Err-clause-few_doublings
 returns-in-Err-clause-few_doublings c = omega (arith, c.values.invariant.few_doublings, c.in-Err.ensures.few_then)
@@ -100,47 +61,8 @@ returns-then-is_refused-clause-len c = refl
 pub returns-then-is_refused-clause-few_doublings : goal.returns-then-is_refused-clause-few_doublings
 returns-then-is_refused-clause-few_doublings c = omega arith
 
-pub left_value-left-requires-clause-column : goal.left_value-left-requires-clause-column
-left_value-left-requires-clause-column c = omega (arith, c.requires.columns)
-
-pub left_value-left-requires-clause-width : goal.left_value-left-requires-clause-width
-left_value-left-requires-clause-width c = c.requires.width
-
-pub left_value-left-requires-clause-row : goal.left_value-left-requires-clause-row
-left_value-left-requires-clause-row c = c.requires.row
-
-pub left_value-left-requires-clause-inside : goal.left_value-left-requires-clause-inside
-left_value-left-requires-clause-inside c = c.requires.inside
-
-pub corner_value-corner-requires-clause-column : goal.corner_value-corner-requires-clause-column
-corner_value-corner-requires-clause-column c = omega (arith, c.requires.columns)
-
-pub corner_value-corner-requires-clause-width : goal.corner_value-corner-requires-clause-width
-corner_value-corner-requires-clause-width c = c.requires.width
-
-pub corner_value-corner-requires-clause-row : goal.corner_value-corner-requires-clause-row
-corner_value-corner-requires-clause-row c = c.requires.row
-
-pub corner_value-corner-requires-clause-inside : goal.corner_value-corner-requires-clause-inside
-corner_value-corner-requires-clause-inside c = c.requires.inside
-
-pub registers-registers-requires : goal.registers-registers-requires
-registers-registers-requires c = record { not_refused = c.is_refused.ensures.not_refused c.if-is_refused.false }
-
 pub overflow_add-at : goal.overflow_add-at
 overflow_add-at c = omega (arith, c.requires.columns, c.requires.width)
-
-pub above_value-above-requires-clause-column : goal.above_value-above-requires-clause-column
-above_value-above-requires-clause-column c = omega (arith, c.requires.columns)
-
-pub above_value-above-requires-clause-width : goal.above_value-above-requires-clause-width
-above_value-above-requires-clause-width c = c.requires.width
-
-pub above_value-above-requires-clause-row : goal.above_value-above-requires-clause-row
-above_value-above-requires-clause-row c = c.requires.row
-
-pub above_value-above-requires-clause-inside : goal.above_value-above-requires-clause-inside
-above_value-above-requires-clause-inside c = omega (arith, c.requires.inside, c.values.invariant.len)
 
 pub read_at-requires-clause-runs : goal.read_at-requires-clause-runs
 read_at-requires-clause-runs c = c.values.invariant.runs
@@ -168,3 +90,52 @@ resume-requires c = record { runs = c.values.invariant.runs }
 
 pub returns-clause-len : goal.returns-clause-len
 returns-clause-len c = c.values.invariant.len
+
+pub row_place-place-requires-clause-column : goal.row_place-place-requires-clause-column
+row_place-place-requires-clause-column c = omega (arith, c.requires.columns)
+
+pub row_place-place-requires-clause-width : goal.row_place-place-requires-clause-width
+row_place-place-requires-clause-width c = c.requires.width
+
+pub row_place-place-requires-clause-row : goal.row_place-place-requires-clause-row
+row_place-place-requires-clause-row c = c.requires.row
+
+pub row_place-place-requires-clause-inside : goal.row_place-place-requires-clause-inside
+row_place-place-requires-clause-inside c = c.requires.inside
+
+pub row_place-place-requires-clause-not_refused : goal.row_place-place-requires-clause-not_refused
+row_place-place-requires-clause-not_refused c = c.is_refused.ensures.not_refused c.if-is_refused.false
+
+pub values-init : goal.values-init
+values-init c =
+    let same : c.args.columns.start ≡ c.args.columns.start + 0 = omega arith in
+    let here = c.row_place-place.ensures in
+    record {
+      value =
+          repeated_none (λ i. value_step (frame_of c.args.layout c.args.parent.now) (c.args.columns.start + i) c.args.y) c.args.values.now c.args.decoder.now
+          ∙ ap (λ (r : Reading). let x : Result (List ℤ × Reading) Cause = Ok (c.args.values.now, r) in x) (sym here.stands);
+      runs = here.runs;
+      len = refl;
+      few_doublings = omega (arith, ap (λ (r : Reading). r.at.doublings) here.stands);
+      left = here.left ∙ ap (λ x. value_left_of c.args.layout.width c.args.values.now x c.args.y) same;
+      corner = here.corner ∙ ap (λ x. value_in_corner c.args.layout.width c.args.values.now x c.args.y) same;
+    }
+
+pub values-preserved : goal.values-preserved
+values-preserved c =
+    let next : c.args.columns.start + c.values.i + 1 ≡ c.args.columns.start + (c.values.i + 1) = omega arith in
+    record {
+      value =
+          repeated_next (λ i. value_step (frame_of c.args.layout c.args.parent.now) (c.args.columns.start + i) c.args.y) c.values.i c.args.values.now c.args.decoder.now c.values.values (reading_at c.values.decoder c.values.place.left.registers) _ c.values.invariant.value c.in-Ok.ensures.value;
+      runs = c.in-Ok.ensures.runs;
+      len = c.read_at.ensures.len ∙ c.values.invariant.len;
+      few_doublings = omega (arith, c.values.invariant.few_doublings, c.in-Ok.ensures.few_doublings);
+      left = c.in-Ok.ensures.left ∙ ap (λ x. value_left_of c.args.layout.width c.read_at.new.values x c.args.y) next;
+      corner = c.in-Ok.ensures.corner ∙ ap (λ x. value_in_corner c.args.layout.width c.read_at.new.values x c.args.y) next;
+    }
+
+pub read_at-requires-clause-left : goal.read_at-requires-clause-left
+read_at-requires-clause-left c = c.values.invariant.left
+
+pub read_at-requires-clause-corner : goal.read_at-requires-clause-corner
+read_at-requires-clause-corner c = c.values.invariant.corner

@@ -1,5 +1,4 @@
 use Rattle.std.proofs.Common.{◌+◌, ◌∙◌, arith, refl}
-use Rattle.std.proofs.lemmas.Result.{err_from_is_err_and}
 use Rattle.dirac_arith.proofs.CodedValues.{repeated_none, repeated_next, repeated_stops}
 use Rattle.dirac_coeffs.specs.BandRead.{value_step}
 use Rattle.dirac_coeffs.specs.Decisions.{frame_of}
@@ -18,16 +17,14 @@ pub values-preserved : goal.values-preserved
 values-preserved c =
     record {
       value =
-          repeated_next (λ i. value_step (frame_of c.args.layout (numbers_in c.args.parent)) (c.args.columns.start + i) c.args.y) c.values.i c.args.values.now c.args.decoder.now c.values.values c.values.decoder _ c.values.invariant.value c.in_ok-read_wide_value.ensures.value;
+          repeated_next (λ i. value_step (frame_of c.args.layout (numbers_in c.args.parent)) (c.args.columns.start + i) c.args.y) c.values.i c.args.values.now c.args.decoder.now c.values.values c.values.decoder _ c.values.invariant.value c.in-Ok.ensures.value;
       len = c.read_wide_value.ensures.len ∙ c.values.invariant.len;
       few_doublings = omega (arith, c.read_wide_value.ensures.few_doublings, c.values.invariant.few_doublings);
     }
 
-pub returns-in_err-read_wide_value-clause-value : goal.returns-in_err-read_wide_value-clause-value
-returns-in_err-read_wide_value-clause-value c =
-    let p = err_from_is_err_and c.from_residual.result c.from_residual.ensures.1 in
-    rw (p.1, p.2)
-    (repeated_stops (λ i. value_step (frame_of c.args.layout (numbers_in c.args.parent)) (c.args.columns.start + i) c.args.y) c.values.i c.args.columns.length c.args.values.now c.args.decoder.now c.values.values c.values.decoder _ (omega arith) c.values.invariant.value c.in_err-read_wide_value.ensures.value)
+pub returns-in-Err-clause-value : goal.returns-in-Err-clause-value
+returns-in-Err-clause-value c =
+    (repeated_stops (λ i. value_step (frame_of c.args.layout (numbers_in c.args.parent)) (c.args.columns.start + i) c.args.y) c.values.i c.args.columns.length c.args.values.now c.args.decoder.now c.values.values c.values.decoder _ (omega arith) c.values.invariant.value c.in-Err.ensures.value)
 
 pub read_wide_value-requires-clause-column : goal.read_wide_value-requires-clause-column
 read_wide_value-requires-clause-column c = omega (arith, c.requires.columns)
@@ -44,11 +41,11 @@ read_wide_value-requires-clause-inside c = omega (arith, c.requires.inside, c.va
 pub read_wide_value-requires-clause-no_overflow : goal.read_wide_value-requires-clause-no_overflow
 read_wide_value-requires-clause-no_overflow c = omega (arith, c.values.invariant.few_doublings, c.requires.no_overflow, c.requires.columns, c.requires.width)
 
-pub returns-in_err-read_wide_value-clause-len : goal.returns-in_err-read_wide_value-clause-len
-returns-in_err-read_wide_value-clause-len c = c.read_wide_value.ensures.len ∙ c.values.invariant.len
+pub returns-in-Err-clause-len : goal.returns-in-Err-clause-len
+returns-in-Err-clause-len c = c.read_wide_value.ensures.len ∙ c.values.invariant.len
 
-pub returns-in_err-read_wide_value-clause-few_doublings : goal.returns-in_err-read_wide_value-clause-few_doublings
-returns-in_err-read_wide_value-clause-few_doublings c = omega (arith, c.values.invariant.few_doublings, c.read_wide_value.ensures.few_doublings)
+pub returns-in-Err-clause-few_doublings : goal.returns-in-Err-clause-few_doublings
+returns-in-Err-clause-few_doublings c = omega (arith, c.values.invariant.few_doublings, c.read_wide_value.ensures.few_doublings)
 
 pub returns-clause-len : goal.returns-clause-len
 returns-clause-len c = c.values.invariant.len

@@ -1,0 +1,49 @@
+use Rattle.std.proofs.Common.{arith, ◌∙◌}
+use Rattle.std.specs.Int.{w64}
+use Rattle.std.proofs.lemmas.Int.{to_z-of_z}
+use Rattle.dirac_coeffs.proofs.contexts.neighbours_at.Goals as goal
+
+pub left_value-requires-clause-column : goal.left_value-requires-clause-column
+left_value-requires-clause-column c = omega (arith, c.requires.column)
+
+pub left_value-requires-clause-width : goal.left_value-requires-clause-width
+left_value-requires-clause-width c = c.requires.width
+
+pub left_value-requires-clause-row : goal.left_value-requires-clause-row
+left_value-requires-clause-row c = c.requires.row
+
+pub left_value-requires-clause-inside : goal.left_value-requires-clause-inside
+left_value-requires-clause-inside c = c.requires.inside
+
+pub above_value-requires-clause-column : goal.above_value-requires-clause-column
+above_value-requires-clause-column c = c.requires.column
+
+pub above_value-requires-clause-width : goal.above_value-requires-clause-width
+above_value-requires-clause-width c = c.requires.width
+
+pub above_value-requires-clause-row : goal.above_value-requires-clause-row
+above_value-requires-clause-row c = c.requires.row
+
+pub above_value-requires-clause-inside : goal.above_value-requires-clause-inside
+above_value-requires-clause-inside c = c.requires.inside
+
+pub corner_value-requires-clause-column : goal.corner_value-requires-clause-column
+corner_value-requires-clause-column c = omega (arith, c.requires.column)
+
+pub corner_value-requires-clause-width : goal.corner_value-requires-clause-width
+corner_value-requires-clause-width c = c.requires.width
+
+pub corner_value-requires-clause-row : goal.corner_value-requires-clause-row
+corner_value-requires-clause-row c = c.requires.row
+
+pub corner_value-requires-clause-inside : goal.corner_value-requires-clause-inside
+corner_value-requires-clause-inside c = c.requires.inside
+
+pub returns-clause-left : goal.returns-clause-left
+returns-clause-left c = to_z-of_z w64 _ (record { sfits = c.left_value.type_inv }) ∙ c.left_value.ensures
+
+pub returns-clause-above : goal.returns-clause-above
+returns-clause-above c = to_z-of_z w64 _ (record { sfits = c.above_value.type_inv }) ∙ c.above_value.ensures
+
+pub returns-clause-corner : goal.returns-clause-corner
+returns-clause-corner c = to_z-of_z w64 _ (record { sfits = c.corner_value.type_inv }) ∙ c.corner_value.ensures
