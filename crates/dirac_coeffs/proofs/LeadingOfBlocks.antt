@@ -272,7 +272,7 @@ bands_lead layout parent index c ys js marks (suc n) f few at zeros theirs index
     let lead : P (n + 1) = record {
       d = k.d;
       spells = then_tells (block_rows_step layout parent index n c) (λ x. blocks_step layout parent index n layout.across x) g.d k.d ds (blocks_part layout parent ys (marks n) n layout.across) g.spells k.spells;
-      same = same_less (omega (arith, last)) (omega arith) k.same;
+      same = same_less {xs = k.d.values} (omega (arith, last)) (omega arith) k.same;
       known = λ d l. k.known d (omega (arith, l));
     } in
     subst P next lead
