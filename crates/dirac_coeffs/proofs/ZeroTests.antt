@@ -1,7 +1,7 @@
 -- What the tests of zeros decide, and that a test of a codeblock's values is the test of its definition.
 use Rattle.std.proofs.Common.{◌≡◌, ℕ, zero, suc, ℤ, pos, negsuc, ◌+◌, ◌<◌, Bool, true, false, List, [], ◌∷◌, length, replicate, Decides, refl, sym, ap, ◌∙◌, arith, inl, inr}
 use Rattle.std.specs.List.{list_all}
-use Rattle.std.proofs.lemmas.Bool.{cases_Bool, and_parts, false≢true}
+use Rattle.std.proofs.lemmas.Bool.{cases_Bool, cases_eq, and_parts, false≢true}
 use Rattle.std.proofs.lemmas.Bool.Decides.{Decides-below_and, same_from_decides}
 use Rattle.dirac_bands.specs.Geometry.{edge_of}
 use Rattle.dirac_coeffs.specs.declared.layout.BandLayout.{BandLayout}
@@ -15,10 +15,17 @@ all_decides : (p : ℕ → Bool) (P : ℕ → Type 0) → ((k : ℕ) → Decides
 unfolding all_below
 all_decides p P each n = Decides-below_and p P (all_below p) each refl (λ m. refl) n
 
-zero_decides : (v : ℤ) → Decides (is_zero v) (v ≡ pos 0)
+pub zero_decides : (v : ℤ) → Decides (is_zero v) (v ≡ pos 0)
 zero_decides (pos zero) = (λ e. refl, λ e. refl)
 zero_decides (pos (suc n)) = (λ e. absurd (false≢true e), λ e. let none : suc n ≡ zero = cc in absurd (omega arith))
 zero_decides (negsuc n) = (λ e. absurd (false≢true e), λ e. absurd (cc))
+
+-- one more value is zero
+pub zero_more : (f : ℕ → ℤ) (n : ℕ) → ((k : ℕ) → k < n → f k ≡ pos 0) → is_zero (f n) ≡ true → (k : ℕ) → k < n + 1 → f k ≡ pos 0
+zero_more f n before e k l = elim (cases_eq k n) [
+  | inl last ↦ rw last ((zero_decides (f n)).0 e)
+  | inr other ↦ before k (omega (arith, l, other))
+]
 
 pub zero_block_decides : (layout : BandLayout) (xs : List ℤ) (cy cx : ℕ) → Decides (is_zero_block layout xs cy cx) (IsZeroBlock layout xs cy cx)
 zero_block_decides layout xs cy cx =

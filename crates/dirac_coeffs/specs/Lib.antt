@@ -11,3 +11,4 @@ pub mod Written
 pub mod Held
 pub mod Lent
 pub mod Sites
+pub mod WrittenBand

@@ -11,7 +11,7 @@ ghost use Rattle.dirac_coeffs.specs.Written.{AreIndicesOf, block_of, is_zero_ban
 
 use crate::block_writer::write_below;
 use crate::coefficients::{Coefficients, numbers_of};
-use crate::layout::{BandLayout, CodedBand};
+use crate::layout::{BandLayout, CodedBand, WrittenBand};
 use crate::numbers::Numbers;
 use dirac_bits::BitWriter;
 use dirac_common::NoMemory;
@@ -23,10 +23,16 @@ fn write_indexed(w: &mut BitWriter, index: u8, block: &[u8]) -> Result<(), NoMem
     ensures exact { OnOk result (w.new ≡ with_band_block index block.now w.old) }
     ensures front { OnErr result (HoldsFront w.old w.new (with_band_block index block.now w.old)) }
 {
-    w.uint(block.len() as u64)?;
-    w.uint(u64::from(index))?;
-    w.align()?;
-    w.block(block)
+    match w.uint(block.len() as u64) {
+        Ok(()) => match w.uint(u64::from(index)) {
+            Ok(()) => match w.align() {
+                Ok(()) => w.block(block),
+                Err(e) => Err(e),
+            },
+            Err(e) => Err(e),
+        },
+        Err(e) => Err(e),
+    }
 }
 
 /// Writes the length of a subband's block, its quantiser index and the block.
@@ -47,10 +53,17 @@ fn write_coded(
         (numbers_in parent.entry)
         band.now.index band.now.table.values band.now.indices) w.old)) }
 {
-    let index = band.index;
-    let values = band.table.numbers();
-    let block = write_below(alloc, values, &band.indices, layout, parent, index)?;
-    write_indexed(w, index, block.as_slice())
+    let written = WrittenBand {
+        values: band.table.numbers(),
+        parent,
+        layout,
+        index: band.index,
+        indices: &band.indices,
+    };
+    match write_below(alloc, written) {
+        Ok(block) => write_indexed(w, band.index, block.as_slice()),
+        Err(e) => Err(e),
+    }
 }
 
 /// Writes a subband (wavelet coefficients, Dirac specification, section 13): bits 0 up to the next byte, the length of
@@ -75,9 +88,13 @@ pub fn write_band(
     ensures spelled { OnOk result (SpelledBehind (band_grammar layout (values_of_parent parent.entry)) band.now w.old
         w.new) }
 {
-    w.align()?;
-    if band.table.are_zeros() {
-        return w.uint(0);
+    match w.align() {
+        Ok(()) => {
+            if band.table.are_zeros() {
+                return w.uint(0);
+            }
+            write_coded(alloc, w, layout, numbers_of(parent), band)
+        }
+        Err(e) => Err(e),
     }
-    write_coded(alloc, w, layout, numbers_of(parent), band)
 }

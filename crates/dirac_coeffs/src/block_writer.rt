@@ -4,35 +4,30 @@ ghost use Rattle.dirac_coeffs.specs.Carried.{AreLawful};
 ghost use Rattle.dirac_coeffs.specs.Layouts.{IsBandLayout};
 ghost use Rattle.dirac_coeffs.specs.Lent.{numbers_in};
 ghost use Rattle.dirac_coeffs.specs.Written.{AreIndicesOf, block_of};
+ghost use Rattle.dirac_coeffs.specs.WrittenBand.{block_in};
 
 use crate::codeblock_writer::write_all;
 use crate::indices::Indices;
-use crate::layout::BandLayout;
+use crate::layout::{BandLayout, WrittenBand};
 use crate::numbers::Numbers;
 use dirac_arith::Encoder;
 use dirac_common::NoMemory;
 use std::alloc::Global;
 
-/// The same of values that are lent, and of a parent whose values are.
-pub fn write_below(
-    alloc: Global,
-    values: Numbers<'_>,
-    indices: &Indices,
-    layout: BandLayout,
-    parent: Numbers<'_>,
-    index: u8,
-) -> Result<Vec<u8>, NoMemory>
-    requires layout { IsBandLayout layout }
-    requires lawful { AreLawful layout index (numbers_in values) indices.now }
-    requires indices { AreIndicesOf layout index (numbers_in values) indices.now }
-    ensures exact { IfOk result (λ block. block.items ≡ block_of layout (numbers_in parent.entry) index
-        (numbers_in values.entry) indices.now) }
-    ensures read_back { IfOk result (λ block. band_read layout (numbers_in parent.entry) index block.items
-        ≡ Ok (band_content (numbers_in values.entry) indices.now)) }
+/// The same of a band whose values are lent.
+pub fn write_below(alloc: Global, band: WrittenBand<'_>) -> Result<Vec<u8>, NoMemory>
+    requires layout { IsBandLayout band.layout }
+    requires lawful { AreLawful band.layout band.index (numbers_in band.values) band.indices.now }
+    requires indices { AreIndicesOf band.layout band.index (numbers_in band.values) band.indices.now }
+    ensures exact { IfOk result (λ block. block.items ≡ block_in band.entry) }
+    ensures read_back { IfOk result (λ block. band_read band.entry.layout (numbers_in band.entry.parent)
+        band.entry.index block.items ≡ Ok (band_content (numbers_in band.entry.values) band.entry.indices.now)) }
 {
     let mut encoder = Encoder::new(alloc);
-    write_all(&mut encoder, values, indices, layout, parent, index)?;
-    encoder.finish()
+    match write_all(&mut encoder, band) {
+        Ok(()) => encoder.finish(),
+        Err(e) => Err(e),
+    }
 }
 
 /// The arithmetic block of a subband's coefficients, whose zero flags are true for codeblocks of zeros, and in
@@ -53,6 +48,12 @@ pub fn write_block(
     ensures read_back { IfOk result (λ block. band_read layout parent.now index block.items
         ≡ Ok (band_content values.now indices.now)) }
 {
-    let values = Numbers::Wide(values);
-    write_below(alloc, values, indices, layout, Numbers::Wide(parent), index)
+    let band = WrittenBand {
+        values: Numbers::Wide(values),
+        parent: Numbers::Wide(parent),
+        layout,
+        index,
+        indices,
+    };
+    write_below(alloc, band)
 }

@@ -1,16 +1,9 @@
-ghost use Rattle.std.specs.Prelude.{◌≡◌, ◌+◌, ◌*◌, ◌<◌, ◌≤◌, ◌++◌, length, OnOk};
+ghost use Rattle.std.specs.Prelude.{◌≡◌, ◌<◌, OnOk};
 ghost use Rattle.dirac_arith.specs.Interval.{narrowed_by};
-ghost use Rattle.dirac_bands.specs.Geometry.{edge_of};
-ghost use Rattle.dirac_coeffs.specs.Carried.{AreSmall};
-ghost use Rattle.dirac_coeffs.specs.Decisions.{frame_of, rows_part, block_part, blocks_part, band_decisions};
-ghost use Rattle.dirac_coeffs.specs.Indices.{offset_part};
-ghost use Rattle.dirac_coeffs.specs.Layouts.{IsBandLayout, codeblock_extent};
-ghost use Rattle.dirac_coeffs.specs.Written.{marks_of};
-ghost use Rattle.dirac_coeffs.specs.Lent.{numbers_in};
+ghost use Rattle.dirac_coeffs.specs.WrittenBand.{IsWritable, blocks_of_row, rows_of_blocks, unskipped_block};
+ghost use Rattle.dirac_coeffs.specs.WrittenBand.{whole_block};
 
-use crate::indices::Indices;
-use crate::layout::BandLayout;
-use crate::numbers::Numbers;
+use crate::layout::WrittenBand;
 use crate::offset_writer::write_offset;
 use crate::spans::{Codeblock, has_flags};
 use crate::value_writer::write_block_values;
@@ -21,29 +14,17 @@ use dirac_common::NoMemory;
 /// Writes a codeblock that isn't skipped: in mode 1 the offset of its index, and its values.
 fn write_unskipped(
     encoder: &mut Encoder,
-    values: Numbers<'_>,
-    indices: &Indices,
-    layout: BandLayout,
-    parent: Numbers<'_>,
-    index: u8,
+    band: WrittenBand<'_>,
     codeblock: Codeblock,
 ) -> Result<(), NoMemory>
-    requires layout { IsBandLayout layout }
-    requires row { codeblock.row < layout.down }
-    requires column { codeblock.column < layout.across }
-    requires len { length (numbers_in values) ≡ layout.width * layout.height }
-    requires magnitudes_bounded { AreSmall (numbers_in values) }
-    requires count { length indices.now ≡ layout.across * layout.down }
+    requires writable { IsWritable band }
+    requires row { codeblock.row < band.layout.down }
+    requires column { codeblock.column < band.layout.across }
     ensures { OnOk result (encoder.new ≡ narrowed_by encoder.old
-        (offset_part layout.mode (marks_of layout index (numbers_in values.entry) indices.now codeblock.row
-        codeblock.column).offset
-        ++ rows_part (frame_of layout (numbers_in parent.entry)) (numbers_in values.entry)
-        (edge_of layout.width layout.across codeblock.column)
-        (codeblock_extent layout.width layout.across codeblock.column) (edge_of layout.height layout.down codeblock.row)
-        (codeblock_extent layout.height layout.down codeblock.row))) }
+        (unskipped_block band.entry codeblock.row codeblock.column)) }
 {
-    match write_offset(encoder, indices, layout, index, codeblock) {
-        Ok(()) => write_block_values(encoder, values, layout, parent, codeblock),
+    match write_offset(encoder, band, codeblock) {
+        Ok(()) => write_block_values(encoder, band, codeblock),
         Err(e) => Err(e),
     }
 }
@@ -51,83 +32,58 @@ fn write_unskipped(
 /// Writes a codeblock behind its zero flag, where it has one.
 fn write_codeblock(
     encoder: &mut Encoder,
-    values: Numbers<'_>,
-    indices: &Indices,
-    layout: BandLayout,
-    parent: Numbers<'_>,
-    index: u8,
+    band: WrittenBand<'_>,
     codeblock: Codeblock,
 ) -> Result<(), NoMemory>
-    requires layout { IsBandLayout layout }
-    requires row { codeblock.row < layout.down }
-    requires column { codeblock.column < layout.across }
-    requires len { length (numbers_in values) ≡ layout.width * layout.height }
-    requires magnitudes_bounded { AreSmall (numbers_in values) }
-    requires count { length indices.now ≡ layout.across * layout.down }
+    requires writable { IsWritable band }
+    requires row { codeblock.row < band.layout.down }
+    requires column { codeblock.column < band.layout.across }
     ensures { OnOk result (encoder.new ≡ narrowed_by encoder.old
-        (block_part layout (numbers_in parent.entry) (numbers_in values.entry) codeblock.row codeblock.column
-        (marks_of layout index (numbers_in values.entry) indices.now codeblock.row codeblock.column))) }
+        (whole_block band.entry codeblock.row codeblock.column)) }
 {
-    if !has_flags(layout) {
-        return write_unskipped(encoder, values, indices, layout, parent, index, codeblock);
+    if !has_flags(band.layout) {
+        return write_unskipped(encoder, band, codeblock);
     }
-    if has_zeros_alone(values, layout, codeblock) {
+    if has_zeros_alone(band, codeblock) {
         return encoder.decision(ZERO_FLAG, true);
     }
     match encoder.decision(ZERO_FLAG, false) {
-        Ok(()) => write_unskipped(encoder, values, indices, layout, parent, index, codeblock),
+        Ok(()) => write_unskipped(encoder, band, codeblock),
         Err(e) => Err(e),
     }
 }
 
 /// Writes row `cy` of codeblocks.
-fn write_codeblocks(
-    encoder: &mut Encoder,
-    values: Numbers<'_>,
-    indices: &Indices,
-    layout: BandLayout,
-    parent: Numbers<'_>,
-    index: u8,
-    cy: u32,
-) -> Result<(), NoMemory>
-    requires layout { IsBandLayout layout }
-    requires row { cy < layout.down }
-    requires len { length (numbers_in values) ≡ layout.width * layout.height }
-    requires magnitudes_bounded { AreSmall (numbers_in values) }
-    requires count { length indices.now ≡ layout.across * layout.down }
+fn write_codeblocks(encoder: &mut Encoder, band: WrittenBand<'_>, cy: u32) -> Result<(), NoMemory>
+    requires writable { IsWritable band }
+    requires row { cy < band.layout.down }
     ensures { OnOk result (encoder.new ≡ narrowed_by encoder.old
-        (blocks_part layout (numbers_in parent.entry) (numbers_in values.entry) (marks_of layout index
-        (numbers_in values.entry) indices.now cy) cy layout.across)) }
+        (blocks_of_row band.entry cy band.entry.layout.across)) }
 {
-    'across: for cx in 0..layout.across {
+    'across: for cx in 0..band.layout.across {
         let codeblock = Codeblock {
             row: cy,
             column: cx,
         };
-        write_codeblock(encoder, values, indices, layout, parent, index, codeblock)?;
+        match write_codeblock(encoder, band, codeblock) {
+            Ok(()) => {}
+            Err(e) => return Err(e),
+        }
     }
     Ok(())
 }
 
-/// Writes all codeblocks of a band of this index.
-pub fn write_all(
-    encoder: &mut Encoder,
-    values: Numbers<'_>,
-    indices: &Indices,
-    layout: BandLayout,
-    parent: Numbers<'_>,
-    index: u8,
-) -> Result<(), NoMemory>
-    requires layout { IsBandLayout layout }
-    requires len { length (numbers_in values) ≡ layout.width * layout.height }
-    requires magnitudes_bounded { AreSmall (numbers_in values) }
-    requires count { length indices.now ≡ layout.across * layout.down }
+/// Writes all codeblocks of a band.
+pub fn write_all(encoder: &mut Encoder, band: WrittenBand<'_>) -> Result<(), NoMemory>
+    requires { IsWritable band }
     ensures { OnOk result (encoder.new ≡ narrowed_by encoder.old
-        (band_decisions layout (numbers_in parent.entry) (numbers_in values.entry) (marks_of layout index
-        (numbers_in values.entry) indices.now))) }
+        (rows_of_blocks band.entry band.entry.layout.down)) }
 {
-    'down: for cy in 0..layout.down {
-        write_codeblocks(encoder, values, indices, layout, parent, index, cy)?;
+    'down: for cy in 0..band.layout.down {
+        match write_codeblocks(encoder, band, cy) {
+            Ok(()) => {}
+            Err(e) => return Err(e),
+        }
     }
     Ok(())
 }

@@ -1,5 +1,6 @@
 use crate::coefficients::Coefficients;
 use crate::indices::Indices;
+use crate::numbers::Numbers;
 use dirac_common::Band;
 
 /// Which subband of a level a block holds: its orientation, its size in coefficients, the number of codeblocks that it
@@ -30,4 +31,15 @@ pub struct CodedBand {
     pub index: u8,
     pub indices: Indices,
     pub table: Coefficients,
+}
+
+/// A subband while it is written: its coefficients and its parent's, as they are lent, by rows, its layout, its
+/// quantiser index and that of each codeblock.
+#[derive(Clone, Copy)]
+pub struct WrittenBand<'a> {
+    pub values: Numbers<'a>,
+    pub parent: Numbers<'a>,
+    pub layout: BandLayout,
+    pub index: u8,
+    pub indices: &'a Indices,
 }

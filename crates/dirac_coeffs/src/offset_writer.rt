@@ -1,10 +1,10 @@
-ghost use Rattle.std.specs.Prelude.{◌≡◌, pos, ◌-◌, ◌*◌, ◌^◌, ◌<◌, ◌-ℤ◌, length, OnOk, unsigned_abs};
+ghost use Rattle.std.specs.Prelude.{◌≡◌, pos, ◌-◌, ◌^◌, ◌<◌, ◌-ℤ◌, OnOk, unsigned_abs};
 ghost use Rattle.dirac_arith.specs.Interval.{narrowed_by};
-ghost use Rattle.dirac_coeffs.specs.Indices as spec;
-ghost use Rattle.dirac_coeffs.specs.Layouts.{IsBandLayout};
+ghost use Rattle.dirac_coeffs.specs.Indices.{offset_part};
+ghost use Rattle.dirac_coeffs.specs.WrittenBand.{IsWritable, marks_in};
 
-use crate::indices::{Indices, codeblock_place, former_index};
-use crate::layout::BandLayout;
+use crate::indices::{codeblock_place, former_index};
+use crate::layout::WrittenBand;
 use crate::spans::Codeblock;
 use dirac_arith::{Encoder, OFFSET_DIGITS, OFFSET_FOLLOW, OFFSET_SIGN};
 use dirac_common::NoMemory;
@@ -20,23 +20,22 @@ fn difference_of(index: u8, former: u8) -> i64
 /// Writes the offset of a codeblock's index, where the mode has one.
 pub fn write_offset(
     encoder: &mut Encoder,
-    indices: &Indices,
-    layout: BandLayout,
-    index: u8,
+    band: WrittenBand<'_>,
     codeblock: Codeblock,
 ) -> Result<(), NoMemory>
-    requires layout { IsBandLayout layout }
-    requires row { codeblock.row < layout.down }
-    requires column { codeblock.column < layout.across }
-    requires count { length indices.now ≡ layout.across * layout.down }
-    ensures { OnOk result (encoder.new ≡ narrowed_by encoder.old (spec.offset_part layout.mode
-        (pos (spec.index_at indices.now (spec.place_of layout codeblock.row codeblock.column))
-        -ℤ pos (spec.index_before index indices.now (spec.place_of layout codeblock.row codeblock.column))))) }
+    requires writable { IsWritable band }
+    requires row { codeblock.row < band.layout.down }
+    requires column { codeblock.column < band.layout.across }
+    ensures { OnOk result (encoder.new ≡ narrowed_by encoder.old (offset_part band.entry.layout.mode
+        (marks_in band.entry codeblock.row codeblock.column).offset)) }
 {
-    if layout.mode == 0 {
+    if band.layout.mode == 0 {
         return Ok(());
     }
-    let c = codeblock_place(layout, codeblock);
-    let offset = difference_of(indices.at(c), former_index(indices, index, c));
+    let c = codeblock_place(band.layout, codeblock);
+    let offset = difference_of(
+        band.indices.at(c),
+        former_index(band.indices, band.index, c),
+    );
     encoder.signed(&OFFSET_FOLLOW, OFFSET_DIGITS, OFFSET_SIGN, offset)
 }

@@ -1,14 +1,13 @@
 ghost use Rattle.std.specs.Prelude.{◌≡◌, ◌+◌, ◌*◌, ◌<◌, ◌≤◌, ◌^◌, ◌-◌, length, IfOk, OnOk, unsigned_abs};
 ghost use Rattle.dirac_arith.specs.Interval.{narrowed_by};
-ghost use Rattle.dirac_bands.specs.Geometry.{edge_of};
 ghost use Rattle.dirac_coeffs.specs.Carried.{AreSmall};
 ghost use Rattle.dirac_coeffs.specs.Contexts.{value_in_corner, value_left_of, value_spelling};
-ghost use Rattle.dirac_coeffs.specs.Decisions.{frame_of, value_part, row_part, rows_part};
-ghost use Rattle.dirac_coeffs.specs.Layouts.{IsBandLayout, codeblock_extent};
+ghost use Rattle.dirac_coeffs.specs.Decisions.{frame_of, value_part, row_part};
 ghost use Rattle.dirac_coeffs.specs.Lent.{numbers_in};
+ghost use Rattle.dirac_coeffs.specs.WrittenBand.{IsWritable, frame_in, values_of_block};
 
 use crate::contexts;
-use crate::layout::BandLayout;
+use crate::layout::{BandLayout, WrittenBand};
 use crate::numbers::{Numbers, number_at};
 use crate::spans::{Codeblock, Span, codeblock_span};
 use dirac_arith::{COEFFICIENT_DIGITS, Encoder};
@@ -86,15 +85,17 @@ fn write_at(
         (λ next. next.corner ≡ value_in_corner layout.width (numbers_in values.entry) (x + 1) y) }
 {
     let width = layout.width as usize;
-    let Beside { left, corner } = beside;
     let above = contexts::above_value(values, width, x, y);
     let parent = contexts::parent_value(parent, width, x, y);
     let value = number_at(values, y * width + x);
-    write_value(encoder, layout.band, left, above, corner, parent, value)?;
-    Ok(Beside {
-        left: value,
-        corner: above,
-    })
+    let Beside { left, corner } = beside;
+    match write_value(encoder, layout.band, left, above, corner, parent, value) {
+        Ok(()) => Ok(Beside {
+            left: value,
+            corner: above,
+        }),
+        Err(e) => Err(e),
+    }
 }
 
 /// Writes the values of these columns of row `y`, as one piece of code with each caller, in which it is known how the
@@ -123,7 +124,10 @@ fn write_part(
     let mut beside = Beside { left, corner };
     'values: for i in 0..columns.length {
         let x = columns.start + i;
-        beside = write_at(encoder, values, layout, parent, x, y, beside)?;
+        match write_at(encoder, values, layout, parent, x, y, beside) {
+            Ok(next) => beside = next,
+            Err(e) => return Err(e),
+        }
     }
     Ok(())
 }
@@ -159,53 +163,51 @@ fn write_below(
 /// Writes the values of these columns of row `y`.
 fn write_row(
     encoder: &mut Encoder,
-    values: Numbers<'_>,
-    layout: BandLayout,
-    parent: Numbers<'_>,
+    band: WrittenBand<'_>,
     y: usize,
     columns: Span,
 ) -> Result<(), NoMemory>
-    requires columns { columns.start + columns.length ≤ layout.width }
-    requires width { layout.width ≤ LARGEST_TABLE_SIDE }
-    requires row { y < LARGEST_TABLE_SIDE }
-    requires inside { (y + 1) * layout.width ≤ length (numbers_in values) }
-    requires magnitudes_bounded { AreSmall (numbers_in values) }
+    requires writable { IsWritable band }
+    requires columns { columns.start + columns.length ≤ band.layout.width }
+    requires row { y < band.layout.height }
     ensures { OnOk result (encoder.new ≡ narrowed_by encoder.old
-        (row_part (frame_of layout (numbers_in parent.entry)) (numbers_in values.entry) y columns.start
-        columns.length)) }
+        (row_part (frame_in band.entry) (numbers_in band.entry.values) y columns.start columns.length)) }
 {
-    match values {
+    match band.values {
         Numbers::Narrow(list) => {
-            write_below(encoder, Numbers::Narrow(list), layout, parent, y, columns)
+            write_below(
+                encoder,
+                Numbers::Narrow(list),
+                band.layout,
+                band.parent,
+                y,
+                columns,
+            )
         }
-        Numbers::Zeros(_count) => write_part(encoder, values, layout, parent, y, columns),
-        Numbers::Wide(_list) => write_part(encoder, values, layout, parent, y, columns),
+        _ => write_part(encoder, band.values, band.layout, band.parent, y, columns),
     }
 }
 
 /// Writes the values of a codeblock.
 pub fn write_block_values(
     encoder: &mut Encoder,
-    values: Numbers<'_>,
-    layout: BandLayout,
-    parent: Numbers<'_>,
+    band: WrittenBand<'_>,
     codeblock: Codeblock,
 ) -> Result<(), NoMemory>
-    requires layout { IsBandLayout layout }
-    requires row { codeblock.row < layout.down }
-    requires column { codeblock.column < layout.across }
-    requires len { length (numbers_in values) ≡ layout.width * layout.height }
-    requires magnitudes_bounded { AreSmall (numbers_in values) }
+    requires writable { IsWritable band }
+    requires row { codeblock.row < band.layout.down }
+    requires column { codeblock.column < band.layout.across }
     ensures { OnOk result (encoder.new ≡ narrowed_by encoder.old
-        (rows_part (frame_of layout (numbers_in parent.entry)) (numbers_in values.entry)
-        (edge_of layout.width layout.across codeblock.column)
-        (codeblock_extent layout.width layout.across codeblock.column) (edge_of layout.height layout.down codeblock.row)
-        (codeblock_extent layout.height layout.down codeblock.row))) }
+        (values_of_block band.entry codeblock.row codeblock.column)) }
 {
+    let layout = band.layout;
     let columns = codeblock_span(layout.width, layout.across, codeblock.column);
     let rows = codeblock_span(layout.height, layout.down, codeblock.row);
     'rows: for j in 0..rows.length {
-        write_row(encoder, values, layout, parent, rows.start + j, columns)?;
+        match write_row(encoder, band, rows.start + j, columns) {
+            Ok(()) => {}
+            Err(e) => return Err(e),
+        }
     }
     Ok(())
 }

@@ -1,12 +1,10 @@
 ghost use Rattle.std.specs.Prelude.{◌≡◌, ℕ, ◌+◌, ◌*◌, ◌<◌, ◌≤◌, pos, true, false, length};
-ghost use Rattle.dirac_bands.specs.Geometry.{edge_of};
-ghost use Rattle.dirac_coeffs.specs.Written.{is_zero_block};
 ghost use Rattle.dirac_coeffs.specs.Contexts.{band_value};
-ghost use Rattle.dirac_coeffs.specs.Layouts.{IsBandLayout, codeblock_extent};
 ghost use Rattle.dirac_coeffs.specs.Lent.{numbers_in};
+ghost use Rattle.dirac_coeffs.specs.WrittenBand.{IsWritable, marks_in};
 
 use crate::contexts::is_zero_value;
-use crate::layout::BandLayout;
+use crate::layout::WrittenBand;
 use crate::numbers::{Numbers, number_at};
 use crate::spans::{Codeblock, Span, codeblock_span};
 use dirac_common::LARGEST_TABLE_SIDE;
@@ -50,14 +48,14 @@ fn are_zero_rows(values: Numbers<'_>, width: usize, rows: Span, columns: Span) -
 }
 
 /// Whether a codeblock has zeros alone, or no values.
-pub fn has_zeros_alone(values: Numbers<'_>, layout: BandLayout, codeblock: Codeblock) -> bool
-    requires layout { IsBandLayout layout }
-    requires row { codeblock.row < layout.down }
-    requires column { codeblock.column < layout.across }
-    requires len { length (numbers_in values) ≡ layout.width * layout.height }
-    ensures { result ≡ is_zero_block layout (numbers_in values.entry) codeblock.row codeblock.column }
+pub fn has_zeros_alone(band: WrittenBand<'_>, codeblock: Codeblock) -> bool
+    requires writable { IsWritable band }
+    requires row { codeblock.row < band.layout.down }
+    requires column { codeblock.column < band.layout.across }
+    ensures { result ≡ (marks_in band.entry codeblock.row codeblock.column).skipped }
 {
+    let layout = band.layout;
     let columns = codeblock_span(layout.width, layout.across, codeblock.column);
     let rows = codeblock_span(layout.height, layout.down, codeblock.row);
-    are_zero_rows(values, layout.width as usize, rows, columns)
+    are_zero_rows(band.values, layout.width as usize, rows, columns)
 }

@@ -2,7 +2,7 @@ use Rattle.std.proofs.Common.{◌≡◌, ℤ, Bool, true, List, Result, Ok, Err,
 use Rattle.std.proofs.lemmas.Result.{on_ok_weaker}
 use Rattle.dirac_bits.specs.Spelling.{SpelledBehind}
 use Rattle.dirac_bits.specs.Writing.{gap}
-use Rattle.dirac_bits.proofs.Fronts.{on_err, err_so, none_stand}
+use Rattle.dirac_bits.proofs.Fronts.{err_so, none_stand}
 use Rattle.dirac_coeffs.specs.declared.layout.BandLayout.{BandLayout}
 use Rattle.dirac_coeffs.specs.declared.layout.CodedBand.{CodedBand}
 use Rattle.dirac_coeffs.specs.Grammar.{band as band_grammar, values_of_parent, IsCodedBand}
@@ -22,32 +22,32 @@ written_spells layout parent b old new is coded of zeros indices (Err x) e = e
 pub returns-then-are_zeros-clause-exact : goal.returns-then-are_zeros-clause-exact
 returns-then-are_zeros-clause-exact c =
     let zeros = sym c.are_zeros.ensures.value ∙ c.if-are_zeros.true in
-    on_ok_weaker c.uint.result (λ e. zeros_written c.args.layout (values_of_parent c.args.parent) c.args.band.now c.args.w.now zeros c.in_ok-align.ensures.ok e) c.uint.ensures.ok
+    on_ok_weaker c.uint.result (λ e. zeros_written c.args.layout (values_of_parent c.args.parent) c.args.band.now c.args.w.now zeros c.in-Ok.ensures.ok e) c.uint.ensures.ok
 
 pub returns-then-are_zeros-clause-front : goal.returns-then-are_zeros-clause-front
 returns-then-are_zeros-clause-front c =
-    err_so c.uint.result (λ e. gap_written c.args.layout (values_of_parent c.args.parent) c.args.band.now c.args.w.now (e ∙ c.in_ok-align.ensures.ok)) c.uint.ensures.err
+    err_so c.uint.result (λ e. gap_written c.args.layout (values_of_parent c.args.parent) c.args.band.now c.args.w.now (e ∙ c.in-Ok.ensures.ok)) c.uint.ensures.err
 
 pub returns-then-are_zeros-clause-spelled : goal.returns-then-are_zeros-clause-spelled
 returns-then-are_zeros-clause-spelled c =
     written_spells c.args.layout (values_of_parent c.args.parent) c.args.band.now c.args.w.now c.uint.new.self c.requires.layout c.requires.band c.requires.indices c.requires.zeros c.requires.zero_indices c.uint.result (returns-then-are_zeros-clause-exact c)
 
-pub returns-clause-exact : goal.returns-clause-exact
-returns-clause-exact c =
+pub returns-else-are_zeros-clause-exact : goal.returns-else-are_zeros-clause-exact
+returns-else-are_zeros-clause-exact c =
     let others = sym c.are_zeros.ensures.value ∙ c.if-are_zeros.false in
     let same = c.numbers_of.ensures in
-    on_ok_weaker c.write_coded.result (λ e. band_written c.args.layout (values_of_parent c.args.parent) c.args.band.now c.args.w.now others c.in_ok-align.ensures.ok same e) c.write_coded.ensures.exact
+    on_ok_weaker c.write_coded.result (λ e. band_written c.args.layout (values_of_parent c.args.parent) c.args.band.now c.args.w.now others c.in-Ok.ensures.ok same e) c.write_coded.ensures.exact
 
-pub returns-clause-front : goal.returns-clause-front
-returns-clause-front c =
+pub returns-else-are_zeros-clause-front : goal.returns-else-are_zeros-clause-front
+returns-else-are_zeros-clause-front c =
     let others = sym c.are_zeros.ensures.value ∙ c.if-are_zeros.false in
     let same = c.numbers_of.ensures in
-    err_so c.write_coded.result (λ holds. band_left c.args.layout (values_of_parent c.args.parent) c.args.band.now c.args.w.now others c.in_ok-align.ensures.ok same holds) c.write_coded.ensures.front
+    err_so c.write_coded.result (λ holds. band_left c.args.layout (values_of_parent c.args.parent) c.args.band.now c.args.w.now others c.in-Ok.ensures.ok same holds) c.write_coded.ensures.front
 
-pub returns-clause-spelled : goal.returns-clause-spelled
-returns-clause-spelled c =
-    written_spells c.args.layout (values_of_parent c.args.parent) c.args.band.now c.args.w.now c.write_coded.new.w c.requires.layout c.requires.band c.requires.indices c.requires.zeros c.requires.zero_indices c.write_coded.result (returns-clause-exact c)
+pub returns-else-are_zeros-clause-spelled : goal.returns-else-are_zeros-clause-spelled
+returns-else-are_zeros-clause-spelled c =
+    written_spells c.args.layout (values_of_parent c.args.parent) c.args.band.now c.args.w.now c.write_coded.new.w c.requires.layout c.requires.band c.requires.indices c.requires.zeros c.requires.zero_indices c.write_coded.result (returns-else-are_zeros-clause-exact c)
 
-pub returns-in_err-align-clause-front : goal.returns-in_err-align-clause-front
-returns-in_err-align-clause-front c =
-    on_err _ (gap_alone c.args.layout (values_of_parent c.args.parent) c.args.band.now (none_stand (gap c.args.w.now) c.in_err-align.ensures.err))
+pub returns-in-Err-clause-front : goal.returns-in-Err-clause-front
+returns-in-Err-clause-front c =
+    gap_alone c.args.layout (values_of_parent c.args.parent) c.args.band.now (none_stand (gap c.args.w.now) c.in-Err.ensures.err)

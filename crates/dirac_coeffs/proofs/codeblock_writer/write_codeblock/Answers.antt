@@ -1,8 +1,8 @@
 use Rattle.std.proofs.Common.{sym, ◌∙◌}
 use Rattle.dirac_coeffs.proofs.codeblock_writer.write_codeblock.Goals as goal
 
-pub has_zeros_alone-requires-clause-layout : goal.has_zeros_alone-requires-clause-layout
-has_zeros_alone-requires-clause-layout c = c.requires.layout
+pub has_zeros_alone-requires-clause-writable : goal.has_zeros_alone-requires-clause-writable
+has_zeros_alone-requires-clause-writable c = c.requires.writable
 
 pub has_zeros_alone-requires-clause-row : goal.has_zeros_alone-requires-clause-row
 has_zeros_alone-requires-clause-row c = c.requires.row
@@ -10,11 +10,8 @@ has_zeros_alone-requires-clause-row c = c.requires.row
 pub has_zeros_alone-requires-clause-column : goal.has_zeros_alone-requires-clause-column
 has_zeros_alone-requires-clause-column c = c.requires.column
 
-pub has_zeros_alone-requires-clause-len : goal.has_zeros_alone-requires-clause-len
-has_zeros_alone-requires-clause-len c = c.requires.len
-
-pub write_unskipped-requires-clause-layout : goal.write_unskipped-requires-clause-layout
-write_unskipped-requires-clause-layout c = c.requires.layout
+pub write_unskipped-requires-clause-writable : goal.write_unskipped-requires-clause-writable
+write_unskipped-requires-clause-writable c = c.requires.writable
 
 pub write_unskipped-requires-clause-row : goal.write_unskipped-requires-clause-row
 write_unskipped-requires-clause-row c = c.requires.row
@@ -22,32 +19,14 @@ write_unskipped-requires-clause-row c = c.requires.row
 pub write_unskipped-requires-clause-column : goal.write_unskipped-requires-clause-column
 write_unskipped-requires-clause-column c = c.requires.column
 
-pub write_unskipped-requires-clause-len : goal.write_unskipped-requires-clause-len
-write_unskipped-requires-clause-len c = c.requires.len
-
-pub write_unskipped-requires-clause-magnitudes_bounded : goal.write_unskipped-requires-clause-magnitudes_bounded
-write_unskipped-requires-clause-magnitudes_bounded c = c.requires.magnitudes_bounded
-
-pub write_unskipped-requires-clause-count : goal.write_unskipped-requires-clause-count
-write_unskipped-requires-clause-count c = c.requires.count
-
-pub write_unskipped-requires-in-Ok-clause-layout : goal.write_unskipped-requires-in-Ok-clause-layout
-write_unskipped-requires-in-Ok-clause-layout c = c.requires.layout
+pub write_unskipped-requires-in-Ok-clause-writable : goal.write_unskipped-requires-in-Ok-clause-writable
+write_unskipped-requires-in-Ok-clause-writable c = c.requires.writable
 
 pub write_unskipped-requires-in-Ok-clause-row : goal.write_unskipped-requires-in-Ok-clause-row
 write_unskipped-requires-in-Ok-clause-row c = c.requires.row
 
 pub write_unskipped-requires-in-Ok-clause-column : goal.write_unskipped-requires-in-Ok-clause-column
 write_unskipped-requires-in-Ok-clause-column c = c.requires.column
-
-pub write_unskipped-requires-in-Ok-clause-len : goal.write_unskipped-requires-in-Ok-clause-len
-write_unskipped-requires-in-Ok-clause-len c = c.requires.len
-
-pub write_unskipped-requires-in-Ok-clause-magnitudes_bounded : goal.write_unskipped-requires-in-Ok-clause-magnitudes_bounded
-write_unskipped-requires-in-Ok-clause-magnitudes_bounded c = c.requires.magnitudes_bounded
-
-pub write_unskipped-requires-in-Ok-clause-count : goal.write_unskipped-requires-in-Ok-clause-count
-write_unskipped-requires-in-Ok-clause-count c = c.requires.count
 
 pub returns-then-not-has_flags : goal.returns-then-not-has_flags
 returns-then-not-has_flags c = rw (sym c.has_flags.ensures ∙ c.if-not-has_flags.true) c.write_unskipped.ensures

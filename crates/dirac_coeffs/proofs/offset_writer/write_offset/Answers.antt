@@ -5,8 +5,8 @@ use Rattle.dirac_coeffs.specs.Indices.{index_at, index_before, place_of}
 use Rattle.dirac_coeffs.proofs.Writing.{no_offset_written, offset_written}
 use Rattle.dirac_coeffs.proofs.offset_writer.write_offset.Goals as goal
 
-pub returns-then-layout-eq0 : goal.returns-then-layout-eq0
-returns-then-layout-eq0 c = no_offset_written c.args.encoder.now c.args.layout.mode _ c.if-layout-eq0.true
+pub returns-then-band-eq0 : goal.returns-then-band-eq0
+returns-then-band-eq0 c = no_offset_written c.args.encoder.now c.args.band.layout.mode _ c.if-band-eq0.true
 
 pub signed-requires-clause-value : goal.signed-requires-clause-value
 signed-requires-clause-value c =
@@ -15,8 +15,8 @@ signed-requires-clause-value c =
 
 pub returns : goal.returns
 returns c =
-    let indices = c.args.indices.now in
-    let place : c.codeblock_place-c.result ≡ place_of c.args.layout c.args.codeblock.row c.args.codeblock.column = c.codeblock_place-c.ensures.value in
+    let indices = c.args.band.indices.now in
+    let place : c.codeblock_place-c.result ≡ place_of c.args.band.layout c.args.codeblock.row c.args.codeblock.column = c.codeblock_place-c.ensures.value in
     let offset : to_z w64 (of_z w64 c.difference_of-offset.result) ≡ c.difference_of-offset.result = to_z-of_z w64 _ (record { sfits = c.difference_of-offset.type_inv }) in
-    let both = ap₂ (λ (a b : ℕ). pos a -ℤ pos b) (c.at.ensures ∙ ap (λ (p : ℕ). index_at indices p) place) (c.former_index.ensures ∙ ap (λ (p : ℕ). index_before c.args.index indices p) place) in
-    on_ok_weaker c.signed.result (λ e. e ∙ offset_written c.args.encoder.now c.args.layout.mode c.if-layout-eq0.false (offset ∙ c.difference_of-offset.ensures.value ∙ both)) c.signed.ensures
+    let both = ap₂ (λ (a b : ℕ). pos a -ℤ pos b) (c.at.ensures ∙ ap (λ (p : ℕ). index_at indices p) place) (c.former_index.ensures ∙ ap (λ (p : ℕ). index_before c.args.band.index indices p) place) in
+    on_ok_weaker c.signed.result (λ e. e ∙ offset_written c.args.encoder.now c.args.band.layout.mode c.if-band-eq0.false (offset ∙ c.difference_of-offset.ensures.value ∙ both)) c.signed.ensures

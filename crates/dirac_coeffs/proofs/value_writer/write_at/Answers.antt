@@ -1,19 +1,21 @@
-use Rattle.std.proofs.lemmas.Result.{err_from_is_err_and}
 use Rattle.std.proofs.lemmas.Nat.{mul-le}
-use Rattle.std.proofs.Common.{◌≡◌, ◌+◌, ◌∙◌, of_z, refl, to_z, arith}
+use Rattle.std.proofs.Common.{rules, ◌≡◌, ℤ, pos, ◌+◌, ◌-◌, ◌*◌, ◌^◌, ◌<◌, ◌∙◌, of_z, refl, subst, sym, to_z, unsigned_abs, arith}
 use Rattle.std.specs.Int.{w64}
 use Rattle.std.proofs.lemmas.Int.{to_z-of_z}
+use Rattle.dirac_common.specs.declared.formats.Band.{Band}
+use Rattle.dirac_arith.specs.Interval.{Interval, narrowed_by}
+use Rattle.dirac_coeffs.specs.Contexts.{value_spelling}
 use Rattle.dirac_coeffs.specs.Lent.{numbers_in}
 use Rattle.dirac_coeffs.proofs.Carrying.{corner_behind, left_behind}
 use Rattle.dirac_coeffs.proofs.value_writer.write_at.Goals as goal
 
-pub returns-clause-left : goal.returns-clause-left
-returns-clause-left c =
+pub returns-in-Ok-clause-left : goal.returns-in-Ok-clause-left
+returns-in-Ok-clause-left c =
     let value : to_z w64 (of_z w64 c.number_at-value.result) ≡ c.number_at-value.result = to_z-of_z w64 _ (record { sfits = c.number_at-value.type_inv }) in
     value ∙ c.number_at-value.ensures ∙ left_behind c.args.layout.width (numbers_in c.args.values) c.args.x c.args.y (c.args.x + 1) refl
 
-pub returns-clause-corner : goal.returns-clause-corner
-returns-clause-corner c =
+pub returns-in-Ok-clause-corner : goal.returns-in-Ok-clause-corner
+returns-in-Ok-clause-corner c =
     let above : to_z w64 (of_z w64 c.above_value-above.result) ≡ c.above_value-above.result = to_z-of_z w64 _ (record { sfits = c.above_value-above.type_inv }) in
     above ∙ c.above_value-above.ensures ∙ corner_behind c.args.layout.width (numbers_in c.args.values) c.args.x c.args.y (c.args.x + 1) refl
 
@@ -47,11 +49,20 @@ overflow_add-y c = omega (arith, c.requires.column, c.requires.width, mul-le c.a
 pub number_at-value-requires : goal.number_at-value-requires
 number_at-value-requires c = omega (arith, c.requires.inside, c.requires.column)
 
-pub returns-in_err-write_value-clause-written : goal.returns-in_err-write_value-clause-written
-returns-in_err-write_value-clause-written c = rw (err_from_is_err_and c.from_residual.result c.from_residual.ensures.1).1 tt
+pub write_value-requires : goal.write_value-requires
+write_value-requires c =
+    let value : to_z w64 (of_z w64 c.number_at-value.result) ≡ c.number_at-value.result = to_z-of_z w64 _ (record { sfits = c.number_at-value.type_inv }) in
+    subst (λ (z : ℤ). unsigned_abs z < 2 ^ 39 - 1) (sym (value ∙ c.number_at-value.ensures)) (c.requires.magnitudes_bounded (c.args.y * c.args.layout.width + c.args.x) (pos 0) (omega (arith, c.requires.inside, c.requires.column)))
 
-pub returns-in_err-write_value-clause-left : goal.returns-in_err-write_value-clause-left
-returns-in_err-write_value-clause-left c = rw (err_from_is_err_and c.from_residual.result c.from_residual.ensures.1).1 tt
+-- a value under other names of it and its neighbours
+same_value : {l m a b c d p q v w : ℤ} (s : Interval) (band : Band) → l ≡ m → a ≡ b → c ≡ d → p ≡ q → v ≡ w → narrowed_by s (value_spelling band l a c p v) ≡ narrowed_by s (value_spelling band m b d q w)
+same_value {l} {m} {a} {b} {c} {d} {p} {q} {v} {w} s band left above corner parent value = cc
 
-pub returns-in_err-write_value-clause-corner : goal.returns-in_err-write_value-clause-corner
-returns-in_err-write_value-clause-corner c = rw (err_from_is_err_and c.from_residual.result c.from_residual.ensures.1).1 tt
+pub returns-in-Ok-clause-written : goal.returns-in-Ok-clause-written
+returns-in-Ok-clause-written c =
+    let left : to_z w64 (of_z w64 c.args.beside.left) ≡ c.args.beside.left = search rules in
+    let corner : to_z w64 (of_z w64 c.args.beside.corner) ≡ c.args.beside.corner = search rules in
+    let above : to_z w64 (of_z w64 c.above_value-above.result) ≡ c.above_value-above.result = to_z-of_z w64 _ (record { sfits = c.above_value-above.type_inv }) in
+    let parent : to_z w64 (of_z w64 c.parent_value-parent.result) ≡ c.parent_value-parent.result = to_z-of_z w64 _ (record { sfits = c.parent_value-parent.type_inv }) in
+    let value : to_z w64 (of_z w64 c.number_at-value.result) ≡ c.number_at-value.result = to_z-of_z w64 _ (record { sfits = c.number_at-value.type_inv }) in
+    c.in-Ok.ensures ∙ same_value c.args.encoder.now c.args.layout.band (left ∙ c.requires.left) (above ∙ c.above_value-above.ensures) (corner ∙ c.requires.corner) (parent ∙ c.parent_value-parent.ensures) (value ∙ c.number_at-value.ensures)

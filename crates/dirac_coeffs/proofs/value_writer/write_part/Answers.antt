@@ -1,4 +1,3 @@
-use Rattle.std.proofs.lemmas.Result.{err_from_is_err_and}
 use Rattle.std.proofs.Common.{◌≡◌, ◌+◌, ◌∙◌, ap, arith, of_z, refl, to_z}
 use Rattle.std.specs.Int.{w64}
 use Rattle.std.proofs.lemmas.Int.{to_z-of_z}
@@ -32,7 +31,7 @@ values-preserved c =
     let y = c.args.y in
     let i = c.values.i in
     let next : from + i + 1 ≡ from + (i + 1) = omega arith in
-    let done = c.in_ok-beside.ensures in
+    let done = c.in-Ok.ensures in
     record {
       written = narrowed_more _ _ _ (row_part f xs y from i) (value_part f xs (from + i) y) _ c.values.invariant.written done.written (row_next f xs y from i);
       left = done.left ∙ ap (λ x. value_left_of w xs x y) next;
@@ -86,6 +85,3 @@ write_at-requires-clause-left c = c.values.invariant.left
 
 pub write_at-requires-clause-corner : goal.write_at-requires-clause-corner
 write_at-requires-clause-corner c = c.values.invariant.corner
-
-pub returns-in_err-beside : goal.returns-in_err-beside
-returns-in_err-beside c = rw (err_from_is_err_and c.from_residual.result c.from_residual.ensures.1).1 tt

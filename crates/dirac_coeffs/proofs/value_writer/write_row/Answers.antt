@@ -1,64 +1,51 @@
-use Rattle.dirac_coeffs.specs.Carried.{AreSmall}
-use Rattle.dirac_coeffs.specs.Lent.{numbers_in}
-use Rattle.dirac_coeffs.specs.Decisions.{frame_of, row_part}
-use Rattle.dirac_coeffs.specs.declared.numbers.Numbers.{Numbers}
+use Rattle.std.proofs.Common.{◌≡◌, ◌+◌, ◌*◌, ◌≤◌, length, OnOk, arith, subst, sym}
 use Rattle.dirac_arith.specs.Interval.{narrowed_by}
-use Rattle.std.proofs.Common.{◌≡◌, ◌+◌, ◌*◌, ◌≤◌, length, OnOk, subst, sym}
+use Rattle.dirac_coeffs.specs.declared.numbers.Numbers.{Numbers}
+use Rattle.dirac_coeffs.specs.Carried.{AreSmall}
+use Rattle.dirac_coeffs.specs.Decisions.{row_part}
+use Rattle.dirac_coeffs.specs.Lent.{numbers_in}
+use Rattle.dirac_coeffs.specs.WrittenBand.{frame_in}
+use Rattle.dirac_coeffs.proofs.Edges.{rows_inside}
 use Rattle.dirac_coeffs.proofs.value_writer.write_row.Goals as goal
 
 pub write_below-requires-clause-columns : goal.write_below-requires-clause-columns
 write_below-requires-clause-columns c = c.requires.columns
 
 pub write_below-requires-clause-width : goal.write_below-requires-clause-width
-write_below-requires-clause-width c = c.requires.width
+write_below-requires-clause-width c = c.requires.writable.layout.width.1
 
 pub write_below-requires-clause-row : goal.write_below-requires-clause-row
-write_below-requires-clause-row c = c.requires.row
+write_below-requires-clause-row c = omega (arith, c.requires.row, c.requires.writable.layout.height)
 
 pub write_below-requires-clause-inside : goal.write_below-requires-clause-inside
 write_below-requires-clause-inside c =
-    subst (λ (n : Numbers). (c.args.y + 1) * c.args.layout.width ≤ length (numbers_in n)) c.in-Narrow.is c.requires.inside
+    let layout = c.args.band.layout in
+    subst (λ (n : Numbers). (c.args.y + 1) * layout.width ≤ length (numbers_in n)) c.in-Narrow.is (rows_inside (c.args.y + 1) layout.width layout.height (length (numbers_in c.args.band.values)) (omega (arith, c.requires.row)) c.requires.writable.len)
 
 pub write_below-requires-clause-magnitudes_bounded : goal.write_below-requires-clause-magnitudes_bounded
-write_below-requires-clause-magnitudes_bounded c = subst (λ (n : Numbers). AreSmall (numbers_in n)) c.in-Narrow.is c.requires.magnitudes_bounded
+write_below-requires-clause-magnitudes_bounded c = subst (λ (n : Numbers). AreSmall (numbers_in n)) c.in-Narrow.is c.requires.writable.magnitudes_bounded
 
 pub write_part-requires-clause-columns : goal.write_part-requires-clause-columns
 write_part-requires-clause-columns c = c.requires.columns
 
 pub write_part-requires-clause-width : goal.write_part-requires-clause-width
-write_part-requires-clause-width c = c.requires.width
+write_part-requires-clause-width c = c.requires.writable.layout.width.1
 
 pub write_part-requires-clause-row : goal.write_part-requires-clause-row
-write_part-requires-clause-row c = c.requires.row
+write_part-requires-clause-row c = omega (arith, c.requires.row, c.requires.writable.layout.height)
 
 pub write_part-requires-clause-inside : goal.write_part-requires-clause-inside
-write_part-requires-clause-inside c = c.requires.inside
+write_part-requires-clause-inside c =
+    let layout = c.args.band.layout in
+    rows_inside (c.args.y + 1) layout.width layout.height (length (numbers_in c.args.band.values)) (omega (arith, c.requires.row)) c.requires.writable.len
 
 pub write_part-requires-clause-magnitudes_bounded : goal.write_part-requires-clause-magnitudes_bounded
-write_part-requires-clause-magnitudes_bounded c = c.requires.magnitudes_bounded
-
-pub write_part-requires-in-Wide-clause-columns : goal.write_part-requires-in-Wide-clause-columns
-write_part-requires-in-Wide-clause-columns c = c.requires.columns
-
-pub write_part-requires-in-Wide-clause-width : goal.write_part-requires-in-Wide-clause-width
-write_part-requires-in-Wide-clause-width c = c.requires.width
-
-pub write_part-requires-in-Wide-clause-row : goal.write_part-requires-in-Wide-clause-row
-write_part-requires-in-Wide-clause-row c = c.requires.row
-
-pub write_part-requires-in-Wide-clause-inside : goal.write_part-requires-in-Wide-clause-inside
-write_part-requires-in-Wide-clause-inside c = c.requires.inside
-
-pub write_part-requires-in-Wide-clause-magnitudes_bounded : goal.write_part-requires-in-Wide-clause-magnitudes_bounded
-write_part-requires-in-Wide-clause-magnitudes_bounded c = c.requires.magnitudes_bounded
+write_part-requires-clause-magnitudes_bounded c = c.requires.writable.magnitudes_bounded
 
 pub returns-in-Narrow : goal.returns-in-Narrow
 returns-in-Narrow c =
-    subst (λ (n : Numbers). OnOk c.write_below.result (c.write_below.new.encoder ≡ narrowed_by c.args.encoder.now (row_part (frame_of c.args.layout (numbers_in c.args.parent)) (numbers_in n) c.args.y c.args.columns.start c.args.columns.length)))
+    subst (λ (n : Numbers). OnOk c.write_below.result (c.write_below.new.encoder ≡ narrowed_by c.args.encoder.now (row_part (frame_in c.args.band) (numbers_in n) c.args.y c.args.columns.start c.args.columns.length)))
     (sym c.in-Narrow.is) c.write_below.ensures
 
-pub returns-in-Zeros : goal.returns-in-Zeros
-returns-in-Zeros c = c.write_part.ensures
-
-pub returns-in-Wide : goal.returns-in-Wide
-returns-in-Wide c = c.write_part-in-Wide.ensures
+pub returns-in_default : goal.returns-in_default
+returns-in_default c = c.write_part.ensures
