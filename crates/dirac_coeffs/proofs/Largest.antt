@@ -1,12 +1,11 @@
 -- The largest of some magnitudes, and bands whose largest magnitude is 0.
 use Rattle.std.proofs.Common.{◌≡◌, ℕ, zero, suc, ℤ, pos, negsuc, ◌+◌, ◌*◌, ◌<◌, ◌≤◌, ◌&&◌, Bool, true, false, List, [], ◌∷◌, ◌++◌, ◌-◌, ◌^◌, drop, take, length, length-append, replicate, slice_index_or, slice_set, unsigned_abs, nat_eq, max, arith, refl, ap, sym, ◌∙◌, inl, inr, subst, eq-eqb}
 use Rattle.std.specs.List.{All}
-use Rattle.std.proofs.lemmas.List.Elements.{All-append}
 use Rattle.std.proofs.lemmas.Bool.{and_parts, cases_Bool, cases_eq, ne_eqb}
-use Rattle.std.proofs.lemmas.List.{get_or-append-add, get_or_append_left, get_or-set_other, get_or-set_same}
+use Rattle.std.proofs.lemmas.List.{get_or-set_other, get_or-set_same, take-append-le, take_all}
 use Rattle.dirac_coeffs.specs.declared.coefficients.NarrowRows.{NarrowRows}
 use Rattle.dirac_coeffs.specs.declared.coefficients.Held.TheVariants.{Narrow}
-use Rattle.dirac_common.specs.Table.{Table, row_of}
+use Rattle.dirac_common.specs.Table.{Table}
 use Rattle.dirac_coeffs.specs.Contexts.{is_zero}
 use Rattle.dirac_coeffs.specs.Held.{IsHeld, IsLargest, held_table, zeros_of}
 use Rattle.dirac_coeffs.specs.Written.{is_zero_band}
@@ -96,54 +95,9 @@ zeros_table t width height largest across down whole is none =
     let values : t.values ≡ replicate (t.width * t.height) (pos 0) = zeros_replicated t.values (t.width * t.height) whole (all_zeros t.values (rw none at is.bound)) in
     rw (across, down) (ap (λ (xs : List ℤ). record t { values = xs }) (sym values))
 
--- what holds of all numbers holds of those in front, and of the rest
-front_all : (P : ℤ → Type 0) (xs ys : List ℤ) → All P (xs ++ ys) → All P xs
-front_all P xs ys all k d l = subst P (get_or_append_left xs ys d k l) (all k d (omega (arith, l, length-append xs ys)))
-
-rest_all : (P : ℤ → Type 0) (xs ys : List ℤ) → All P (xs ++ ys) → All P ys
-rest_all P xs ys all k d l = subst P (get_or-append-add xs ys k d) (all (length xs + k) d (omega (arith, l, length-append xs ys)))
-
--- the largest of two lists' largest magnitudes
-pub largest_joined : (xs ys : List ℤ) (a b new : ℕ) → IsLargest a xs → IsLargest b ys → new ≡ max a b → IsLargest new (xs ++ ys)
-largest_joined xs ys a b new p q e = record {
-  bound = All-append (λ v. unsigned_abs v ≤ new) xs ys (λ k d l. omega (arith, e, p.bound k d l)) (λ k d l. omega (arith, e, q.bound k d l));
-  least = λ m all. omega (arith, e, p.least m (front_all (λ v. unsigned_abs v ≤ m) xs ys all), q.least m (rest_all (λ v. unsigned_abs v ≤ m) xs ys all));
-}
-
-pub largest_none : IsLargest 0 []
-largest_none = record { bound = λ k d l. absurd (omega arith); least = λ m all. omega arith }
-
--- one more row
-pub rows_taken : (t : Table) (y : ℕ) → take ((y + 1) * t.width) t.values ≡ take (y * t.width) t.values ++ row_of t y
-rows_taken t y =
-    let more : (y + 1) * t.width ≡ y * t.width + t.width = omega arith in
-    let row : y * t.width + t.width - y * t.width ≡ t.width = omega arith in
-    rw (more, row) (taken (y * t.width) t.width t.values)
-  where
-    taken : (m n : ℕ) (xs : List ℤ) → take (m + n) xs ≡ take m xs ++ take n (drop m xs)
-    taken zero n xs = let none : 0 + n ≡ n = omega arith in rw none refl
-    taken (suc m) zero [] = let next : suc m + 0 ≡ suc m = omega arith in rw next refl
-    taken (suc m) (suc n) [] = let next : suc m + suc n ≡ suc (m + suc n) = omega arith in rw next refl
-    taken (suc m) n (x ∷ xs) = let next : suc m + n ≡ suc (m + n) = omega arith in rw next (ap (λ zs. x ∷ zs) (taken m n xs))
-
--- what is known of the rows that were narrowed, and of one more
-pub record AreNarrowed (all : Bool) (largest : ℕ) (values xs : List ℤ) : Type 0 where
-  pub written : all ≡ true → values ≡ xs
-  pub most : all ≡ true → IsLargest largest xs
-  pub others : all ≡ false → (m : ℕ) → All (λ v. unsigned_abs v ≤ m) xs → 2 ^ 31 ≤ m
-
-pub row_narrowed : (t : Table) (y next : ℕ) (all one : Bool) (largest other new : ℕ) (values more : List ℤ) → next ≡ y + 1 → AreNarrowed all largest values (take (y * t.width) t.values) → (one ≡ true → more ≡ values ++ row_of t y)
-    → (one ≡ true → IsLargest other (row_of t y)) → (one ≡ false → (m : ℕ) → All (λ v. unsigned_abs v ≤ m) (row_of t y) → 2 ^ 31 ≤ m) → new ≡ max largest other
-    → AreNarrowed (all && one) new more (take (next * t.width) t.values)
-row_narrowed t y next all one largest other new values more next_is p written most others e =
-    rw (next_is, rows_taken t y) (record {
-      written = λ h. let both = and_parts all one h in written both.1 ∙ ap (λ zs. zs ++ row_of t y) (p.written both.0);
-      most = λ h. let both = and_parts all one h in largest_joined (take (y * t.width) t.values) (row_of t y) largest other new (p.most both.0) (most both.1) e;
-      others = λ h m l. elim (cases_Bool all) [
-        | inl so_far ↦ let last : one ≡ false = rw so_far at h in others last m (rest_all (λ v. unsigned_abs v ≤ m) (take (y * t.width) t.values) (row_of t y) l)
-        | inr before ↦ p.others before m (front_all (λ v. unsigned_abs v ≤ m) (take (y * t.width) t.values) (row_of t y) l)
-      ];
-    })
+-- a list that is written all over
+pub filled : (len : ℕ) (new old : List ℤ) → length new ≡ len → take len (new ++ drop (length new) old) ≡ new
+filled len new old e = take-append-le len new (drop (length new) old) (omega (arith, e)) ∙ take_all len new (omega (arith, e))
 
 -- a place of rows in 32 bits is inside their list, and small
 pub held_inside : (r : NarrowRows) (t : Table) (x y largest : ℕ) → held_table (Narrow r) ≡ t → IsHeld (Narrow r) largest → x < t.width → y < t.height → (y * r.size.width + x < length r.values.items) × (y * r.size.width ≤ 8192 * 8192) × (x < 8192)

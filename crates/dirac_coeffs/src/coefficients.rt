@@ -1,5 +1,5 @@
 ghost use Rattle.std.specs.Prelude.{◌≡◌, ℕ, pos, true, false, ◌*◌, ◌^◌, ◌<◌, ◌≤◌, length, slice_index_or};
-ghost use Rattle.std.specs.Prelude.{slice_set, unsigned_abs, List, [], ◌++◌, IfOk, IfSome, None};
+ghost use Rattle.std.specs.Prelude.{slice_set, replicate, unsigned_abs, List, IfOk, IfSome, None};
 ghost use Rattle.std.specs.List.{All};
 ghost use Rattle.dirac_common.specs.Table.{row_of, table_at};
 ghost use Rattle.dirac_coeffs.specs.Grammar.{values_of_parent};
@@ -76,16 +76,29 @@ impl Coefficients {
         requires down { table.height ≤ LARGEST_TABLE_SIDE }
         ensures { IfOk result (λ c. c ≡ table) }
     {
-        let mut values = Vec::with_capacity(alloc, table.values().len())?;
-        let narrowed = append_all_narrowed(alloc, &table, &mut values)?;
-        if !narrowed.all {
-            let largest = largest_of(table.values());
-            return Ok(Coefficients {
-                held: Held::Wide(table),
-                largest,
-            });
+        match vec![in alloc; 0i32; table.values().len()] {
+            Ok(values) => Ok(Coefficients::narrowed_into(table, values)),
+            Err(_e) => Err(NoMemory),
         }
-        Ok(Coefficients::of_rows(table.width(), table.height(), values, narrowed.largest))
+    }
+
+    /// The coefficients of this table, in this list where all magnitudes are below 2^31.
+    fn narrowed_into(table: BandTable, values: Vec<i32>) -> Coefficients
+        requires across { table.width ≤ LARGEST_TABLE_SIDE }
+        requires down { table.height ≤ LARGEST_TABLE_SIDE }
+        requires len { length values.items ≡ length table.values }
+        ensures { result ≡ table }
+    {
+        let mut values = values;
+        let narrowed = copy_narrowed(table.values(), values.as_mut_slice());
+        if narrowed.all {
+            return Coefficients::of_rows(table.width(), table.height(), values, narrowed.largest);
+        }
+        let largest = largest_of(table.values());
+        Coefficients {
+            held: Held::Wide(table),
+            largest,
+        }
     }
 
     /// The coefficients that stand in this list, by rows, and have this largest magnitude.
@@ -122,9 +135,10 @@ impl Coefficients {
         match values {
             Values::Narrow(list) => Ok(Coefficients::of_narrow(width, height, list)),
             Values::Wide(list) => {
-                let mut table = BandTable::try_new(alloc, width, height, 0)?;
-                table.values_mut().copy_from_slice(list.as_slice());
-                Coefficients::try_of(alloc, table)
+                match table_of(alloc, width, height, Numbers::Wide(list.as_slice())) {
+                    Ok(table) => Coefficients::try_of(alloc, table),
+                    Err(e) => Err(e),
+                }
             }
         }
     }
@@ -232,13 +246,41 @@ impl Coefficients {
     pub fn try_wide(&self, alloc: Global) -> Result<BandTable, NoMemory>
         ensures { IfOk result (λ t. t ≡ self.now) }
     {
-        let mut wide = BandTable::try_new(alloc, self.width(), self.height(), 0)?;
-        match &self.held {
-            Held::Zeros(_size) => {}
-            Held::Narrow(rows) => copy_widened(rows.values.as_slice(), wide.values_mut()),
-            Held::Wide(table) => wide.values_mut().copy_from_slice(table.values()),
+        table_of(alloc, self.width(), self.height(), self.numbers())
+    }
+}
+
+/// A table of these numbers, by rows, each in 64 bits.
+fn table_of(
+    alloc: Global,
+    width: u32,
+    height: u32,
+    numbers: Numbers<'_>,
+) -> Result<BandTable, NoMemory>
+    requires across { (1 ≤ width) × (width ≤ LARGEST_TABLE_SIDE) }
+    requires down { (1 ≤ height) × (height ≤ LARGEST_TABLE_SIDE) }
+    requires len { length (numbers_in numbers) ≡ width * height }
+    ensures { IfOk result (λ t. t ≡ record { width = width; height = height; values = numbers_in numbers.entry }) }
+{
+    match BandTable::try_new(alloc, width, height, 0) {
+        Ok(zeros) => {
+            let mut table = zeros;
+            write_wide(numbers, table.values_mut());
+            Ok(table)
         }
-        Ok(wide)
+        Err(e) => Err(e),
+    }
+}
+
+/// Writes numbers in 64 bits, over zeros.
+fn write_wide(numbers: Numbers<'_>, wide: &mut [i64])
+    requires { wide.old ≡ replicate (length (numbers_in numbers)) (pos 0) }
+    ensures { wide.new ≡ numbers_in numbers.entry }
+{
+    match numbers {
+        Numbers::Zeros(_count) => {}
+        Numbers::Narrow(list) => copy_widened(list, wide),
+        Numbers::Wide(list) => wide.copy_from_slice(list),
     }
 }
 
@@ -277,10 +319,11 @@ fn put_narrowed(wide: &[i64], n: usize, narrow: &mut [i32]) -> Narrowed
     ensures largest { result.all ≡ true → result.largest ≡ unsigned_abs (slice_index_or wide.now n (pos 0)) }
     ensures others { result.all ≡ false → 2 ^ 31 ≤ unsigned_abs (slice_index_or wide.now n (pos 0)) }
 {
-    let half = lower_half(wide[n]);
+    let value = wide[n];
+    let half = lower_half(value);
     narrow[n] = half;
     Narrowed {
-        all: i64::from(half) == wide[n],
+        all: i64::from(half) == value,
         largest: half.unsigned_abs(),
     }
 }
@@ -300,47 +343,6 @@ fn copy_narrowed(wide: &[i64], narrow: &mut [i32]) -> Narrowed
         largest = largest.max(one.largest);
     }
     Narrowed { all, largest }
-}
-
-/// Appends a row of numbers in 32 bits, where they fit. They are written into a line of its length first, several at
-/// once.
-fn append_narrowed(
-    row: &[i64],
-    line: &mut [i32],
-    values: &mut Vec<i32>,
-) -> Result<Narrowed, NoMemory>
-    requires { length line.old ≡ length row.now }
-    ensures written { IfOk result (λ n. n.all ≡ true → values.new.items ≡ values.old.items ++ row.now) }
-    ensures largest { IfOk result (λ n. n.all ≡ true → IsLargest n.largest row.now) }
-    ensures others { IfOk result (λ n. n.all ≡ false → (m : ℕ) → All (λ v. unsigned_abs v ≤ m) row.now → 2 ^ 31 ≤ m) }
-{
-    let narrowed = copy_narrowed(row, line);
-    values.extend_from_slice(line)?;
-    Ok(narrowed)
-}
-
-/// Appends all rows of a table in 32 bits, where its numbers fit, to an empty list.
-fn append_all_narrowed(
-    alloc: Global,
-    table: &BandTable,
-    values: &mut Vec<i32>,
-) -> Result<Narrowed, NoMemory>
-    requires { values.old.items ≡ [] }
-    ensures written { IfOk result (λ n. n.all ≡ true → values.new.items ≡ table.now.values) }
-    ensures largest { IfOk result (λ n. n.all ≡ true → IsLargest n.largest table.now.values) }
-    ensures others { IfOk result (λ n. n.all ≡ false → (m : ℕ) → All (λ v. unsigned_abs v ≤ m) table.now.values
-        → 2 ^ 31 ≤ m) }
-{
-    let mut buffer = vec![in alloc; 0i32; table.width() as usize]?;
-    let line = buffer.as_mut_slice();
-    let mut all = true;
-    let mut largest = 0u32;
-    for y in 0..table.height() {
-        let next = append_narrowed(table.row(y), line, values)?;
-        all &= next.all;
-        largest = largest.max(next.largest);
-    }
-    Ok(Narrowed { all, largest })
 }
 
 /// The largest magnitude.
