@@ -12,7 +12,6 @@ mod superblock;
 mod table;
 
 pub use block::Block;
-pub use lists::{Blocks, Splits};
 pub use neighbours::{
     dc, predict_split_at, predicted_dc, predicted_use_bit, predicted_vector, use_bit, vector,
 };

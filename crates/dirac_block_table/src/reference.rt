@@ -1,5 +1,5 @@
 /// The first or the second reference of a picture.
-#[derive(Clone, Copy, Debug, PartialEq, Eq)]
+#[derive(Clone, Copy, PartialEq, Eq)]
 pub enum Reference {
     First,
     Second,

@@ -6,7 +6,5 @@ fn is_shared<T: Send + Sync>() {}
 /// Each of these types may be shared by threads and sent to them.
 fn are_shared() {
     is_shared::<crate::Block>();
-    is_shared::<crate::Splits>();
-    is_shared::<crate::Blocks>();
     is_shared::<crate::BlockData>();
 }

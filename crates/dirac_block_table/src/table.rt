@@ -7,7 +7,7 @@ ghost use Rattle.dirac_block_table.specs.Tables.{block_at};
 
 use crate::block::Block;
 use crate::filling::fill_rows;
-use crate::lists::{Blocks, Splits, new_blocks, new_splits};
+use crate::lists::{new_blocks, new_splits};
 use crate::superblock::put_superblock;
 use dirac_common::{NoMemory, Vector};
 use std::alloc::Global;
@@ -15,13 +15,13 @@ use std::marker::Model;
 
 /// The block table of an inter picture: how its superblocks of 4 by 4 blocks are split into units, and how each
 /// block is predicted. All blocks of a unit are equal.
-#[derive(Debug, Drop)]
+#[derive(Drop)]
 pub struct BlockData {
     across: u32,
     down: u32,
     refs: u8,
-    splits: Splits,
-    blocks: Blocks,
+    splits: Vec<u8>,
+    blocks: Vec<Block>,
 }
 
 impl Model for BlockData {
@@ -33,16 +33,16 @@ impl Model for BlockData {
       across = t.across;
       down = t.down;
       refs = t.refs;
-      splits = t.splits;
-      blocks = t.blocks;
+      splits = t.splits.items;
+      blocks = t.blocks.items;
     } };
 
     ghost invariant = { λ t. IsBlockTable (record {
       across = t.across;
       down = t.down;
       refs = t.refs;
-      splits = t.splits;
-      blocks = t.blocks;
+      splits = t.splits.items;
+      blocks = t.blocks.items;
     }) };
 }
 
@@ -108,8 +108,7 @@ impl BlockData {
         ensures at_most_2 { result ≤ 2 }
         ensures lawful { IsBlockTable self.now }
     {
-        self.splits
-            .at(sy as usize * self.across as usize + sx as usize)
+        self.splits[sy as usize * self.across as usize + sx as usize]
     }
 
     /// Block `i` of row `j`.
@@ -120,8 +119,7 @@ impl BlockData {
         ensures block { IsBlock self.now.refs result }
         ensures lawful { IsBlockTable self.now }
     {
-        self.blocks
-            .at(j as usize * (4 * self.across as usize) + i as usize)
+        self.blocks[j as usize * (4 * self.across as usize) + i as usize]
     }
 
     /// Writes superblock `sx` of row `sy`: how it is split, and the block of each of its units, by rows.
@@ -137,7 +135,7 @@ impl BlockData {
         let across = self.across as usize;
         let left = sx as usize;
         let top = sy as usize;
-        self.splits.set(top * across + left, split);
+        self.splits[top * across + left] = split;
         put_superblock(
             &mut self.blocks,
             4 * across,
@@ -158,7 +156,7 @@ impl BlockData {
         ensures lawful { IsBlockTable self.new }
     {
         let place = sy as usize * self.across as usize + sx as usize;
-        self.splits.set(place, split);
+        self.splits[place] = split;
     }
 
     /// Writes the blocks of a unit, of `size` by `size` equal blocks from block `i` of row `j` on.
@@ -185,8 +183,8 @@ impl BlockData {
     pub fn try_copy(&self, alloc: Global) -> Result<BlockData, NoMemory>
         ensures { IfOk result (λ t. t ≡ self.now) }
     {
-        match self.splits.try_copy(alloc) {
-            Ok(splits) => match self.blocks.try_copy(alloc) {
+        match Vec::from_slice(alloc, self.splits.as_slice()) {
+            Ok(splits) => match Vec::from_slice(alloc, self.blocks.as_slice()) {
                 Ok(blocks) => Ok(BlockData {
                     across: self.across,
                     down: self.down,
@@ -194,9 +192,9 @@ impl BlockData {
                     splits,
                     blocks,
                 }),
-                Err(e) => Err(e),
+                Err(_) => Err(NoMemory),
             },
-            Err(e) => Err(e),
+            Err(_) => Err(NoMemory),
         }
     }
 }

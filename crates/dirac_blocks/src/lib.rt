@@ -14,9 +14,7 @@ mod unit_reading;
 mod unit_writer;
 mod writer;
 
-pub use dirac_block_table::{
-    Block, BlockData, Blocks, Splits, grey_block, unit_blocks, units_across,
-};
+pub use dirac_block_table::{Block, BlockData, grey_block, unit_blocks, units_across};
 pub use laws::{carried_lists_are_read, read_lists_are_carried, refused_lists_break_off};
 pub use reader::read_blocks;
 pub use writer::write_blocks;

@@ -1,4 +1,4 @@
-use Rattle.std.proofs.Common.{refl, ◌∙◌, ap, sym, slice_set, ◌+◌, length, length-set, List}
+use Rattle.std.proofs.Common.{refl, ◌∙◌, ap, sym, slice_set, ◌+◌, length-set, List}
 use Rattle.dirac_block_table.specs.declared.block.Block.{Block}
 use Rattle.dirac_block_table.specs.Filling.{row_filled}
 use Rattle.dirac_block_table.proofs.Fills.{row_filled_next}
@@ -14,7 +14,7 @@ places-preserved c =
     let n = c.places.n in
     record {
       exact =
-          c.set.ensures ∙ ap (λ (xs : List Block). slice_set xs (start + n) c.args.block) c.places.invariant.exact
-          ∙ sym (row_filled_next c.args.blocks.now start c.args.block n);
-      len = ap length c.set.ensures ∙ length-set c.places.blocks (start + n) c.args.block ∙ c.places.invariant.len;
+          ap (λ (xs : List Block). slice_set xs (start + n) c.args.block) c.places.invariant.exact
+          ∙ sym (row_filled_next c.args.blocks.now.items start c.args.block n);
+      len = length-set c.places.blocks.items (start + n) c.args.block ∙ c.places.invariant.len;
     }

@@ -5,6 +5,6 @@ use Rattle.dirac_block_table.proofs.filling.fill_row.Given as goal
 abbrev pub invariant-places : goal.invariant-places
 invariant-places l =
     record {
-      exact : l.blocks ≡ row_filled l.fn.blocks l.start l.block l.n;
-      len : length l.blocks ≡ length l.fn.blocks;
+      exact : l.blocks.items ≡ row_filled l.fn.blocks.items l.start l.block l.n;
+      len : length l.blocks.items ≡ length l.fn.blocks.items;
     }

@@ -14,6 +14,6 @@ rows-preserved c =
     record {
       exact =
           c.fill_row.ensures.exact ∙ ap (λ (xs : List Block). row_filled xs start c.args.block c.args.size) c.rows.invariant.exact
-          ∙ sym (rows_filled_next c.args.width c.args.blocks.now c.args.size c.args.i c.args.j c.args.block c.rows.n);
+          ∙ sym (rows_filled_next c.args.width c.args.blocks.now.items c.args.size c.args.i c.args.j c.args.block c.rows.n);
       len = c.fill_row.ensures.len ∙ c.rows.invariant.len;
     }

@@ -40,8 +40,8 @@ rows-preserved c =
     let fits : raw + 2 ^ split ≤ length units = rw is (omega (arith, c.requires.units, row_fits split c.rows.j c.requires.split (omega arith))) in
     record {
       rows =
-          rows_more c.args.width c.args.left c.args.top split units c.rows.j c.args.blocks.now c.rows.blocks c.put_row.new.blocks c.requires.columns
-          (subst (λ from. RowPut start split units from 4 c.rows.blocks c.put_row.new.blocks) is c.put_row.ensures) c.rows.invariant.rows;
+          rows_more c.args.width c.args.left c.args.top split units c.rows.j c.args.blocks.now.items c.rows.blocks.items c.put_row.new.blocks.items c.requires.columns
+          (subst (λ from. RowPut start split units from 4 c.rows.blocks.items c.put_row.new.blocks.items) is c.put_row.ensures) c.rows.invariant.rows;
       lawful = λ refs us os.
-          row_lawful refs start split units raw c.rows.blocks c.put_row.new.blocks c.requires.split fits c.put_row.ensures us (c.rows.invariant.lawful refs us os);
+          row_lawful refs start split units raw c.rows.blocks.items c.put_row.new.blocks.items c.requires.split fits c.put_row.ensures us (c.rows.invariant.lawful refs us os);
     }

@@ -6,7 +6,7 @@ use Rattle.dirac_block_table.proofs.table.BlockData.set_unit.Goals as goal
 
 pub invariant_of-self : goal.invariant_of-self
 invariant_of-self c =
-    let t : BlockTable = record { across = c.self.inside.across; down = c.self.inside.down; refs = c.self.inside.refs; splits = c.self.inside.splits; blocks = c.self.inside.blocks } in
+    let t : BlockTable = record { across = c.self.inside.across; down = c.self.inside.down; refs = c.self.inside.refs; splits = c.self.inside.splits.items; blocks = c.self.inside.blocks.items } in
     let unit : IsFirstOfUnit t c.args.size c.args.i c.args.j = subst (λ (u : BlockTable). IsFirstOfUnit u c.args.size c.args.i c.args.j) (sym c.self.view_is) c.requires.unit in
     let block : IsBlock t.refs c.args.block = subst (λ (u : BlockTable). IsBlock u.refs c.args.block) (sym c.self.view_is) c.requires.block in
     rw c.fill_rows.ensures.exact (unit_lawful t c.args.size c.args.i c.args.j c.args.block c.self.invariant unit block)
@@ -16,6 +16,6 @@ returns-clause-lawful c = invariant_of-self c
 
 pub fill_rows-requires-clause-rows : goal.fill_rows-requires-clause-rows
 fill_rows-requires-clause-rows c =
-    let t : BlockTable = record { across = c.self.inside.across; down = c.self.inside.down; refs = c.self.inside.refs; splits = c.self.inside.splits; blocks = c.self.inside.blocks } in
+    let t : BlockTable = record { across = c.self.inside.across; down = c.self.inside.down; refs = c.self.inside.refs; splits = c.self.inside.splits.items; blocks = c.self.inside.blocks.items } in
     let unit : IsFirstOfUnit t c.args.size c.args.i c.args.j = subst (λ (u : BlockTable). IsFirstOfUnit u c.args.size c.args.i c.args.j) (sym c.self.view_is) c.requires.unit in
     (unit_placed t c.args.size c.args.i c.args.j c.self.invariant unit).rows
