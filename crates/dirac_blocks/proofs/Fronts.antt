@@ -2,17 +2,11 @@
 use Rattle.std.proofs.Common.{◌≡◌, ℕ, Bool, List, [], ◌∷◌, ◌++◌, length, refl, sym, ap, subst, ◌∙◌}
 use Rattle.dirac_common.specs.Bits.{bits_of}
 use Rattle.dirac_common.specs.Numbers.{uint}
-use Rattle.dirac_common.specs.declared.formats.Component.TheVariants as components
 use Rattle.dirac_arith.specs.Interval.{Decision}
 use Rattle.dirac_arith.specs.Written.{flush}
 use Rattle.dirac_bits.specs.Fronts.{HoldsFront}
 use Rattle.dirac_bits.specs.Writing.{gap}
 use Rattle.dirac_bits.proofs.Fronts.{nothing_stands, all_stand, more_stand, still_stand, through_stand}
-use Rattle.dirac_blocks.specs.declared.parts.ListKind.TheVariants as parts
-use Rattle.dirac_block_table.specs.declared.reference.Reference.TheVariants as references
-use Rattle.dirac_blocks.specs.Decisions.{least_numbers, split_rows, unit_decisions}
-use Rattle.dirac_blocks.specs.Parts.{part_at}
-use Rattle.dirac_block_table.specs.Tables.{BlockTable}
 use Rattle.dirac_blocks.specs.Written.{with_block, with_lists}
 use Rattle.dirac_blocks.proofs.Appended.{lists_append}
 
@@ -64,25 +58,3 @@ other_lists {old} {mid} {new} first rest written holds =
     let before : HoldsFront old mid (with_lists first old) = still_stand whole written in
     let later : HoldsFront old new (with_lists rest mid) = through_stand before holds in
     subst (λ (l : List Bool). HoldsFront old new l) (ap (with_lists rest) written ∙ sym (lists_append first rest old)) later
-
--- ---- the lists of a table, stage by stage
-
-abbrev pub splits_of : BlockTable → List (List Decision)
-splits_of t = split_rows t.across (least_numbers t) t.down ∷ []
-
-abbrev pub modes_of : BlockTable → List (List Decision)
-modes_of t = unit_decisions t (part_at parts.Modes t) ∷ []
-
-abbrev pub firsts_of : BlockTable → List (List Decision)
-firsts_of t = unit_decisions t (part_at (parts.Across references.First) t) ∷ unit_decisions t (part_at (parts.Down references.First) t) ∷ []
-
-abbrev pub dcs_of : BlockTable → List (List Decision)
-dcs_of t =
-    unit_decisions t (part_at (parts.Dc components.Y) t)
-    ∷ unit_decisions t (part_at (parts.Dc components.U) t)
-    ∷ unit_decisions t (part_at (parts.Dc components.V) t)
-    ∷ []
-
--- one more stage was written
-pub next_lists : {mid new : List Bool} (old : List Bool) (before next : List (List Decision)) → mid ≡ with_lists before old → new ≡ with_lists next mid → new ≡ with_lists (before ++ next) old
-next_lists {mid} {new} old before next first second = second ∙ ap (with_lists next) first ∙ sym (lists_append before next old)

@@ -1,5 +1,5 @@
 -- Lists of a table that are read one after another.
-use Rattle.std.proofs.Common.{◌≡◌, ℕ, List, Ok, Err, Option, Some, None, Result, refl, ap, subst, sym, ◌∙◌}
+use Rattle.std.proofs.Common.{◌≡◌, ℕ, List, Ok, Err, Result, refl, ap, subst, sym, ◌∙◌}
 use Rattle.dirac_common.specs.Chain.{◌>>=◌ as ◌>>◌}
 use Rattle.dirac_common.specs.declared.faults.Cause.{Cause}
 use Rattle.dirac_common.specs.declared.faults.Refusal.{Refusal}
@@ -10,43 +10,31 @@ use Rattle.dirac_bits.specs.Cursor.{Cursor, place, aligned}
 use Rattle.dirac_bits.specs.Fields.{uint_at, block_read_at}
 use Rattle.dirac_bits.specs.Syntax.{Syntax, ◌>>=◌, read}
 use Rattle.dirac_bits.specs.Then.{read_then}
-use Rattle.dirac_blocks.specs.declared.parts.ListKind.{ListKind}
 use Rattle.dirac_blocks.specs.Grammar.{TableStep, blocks, empty_table, list_over, lists_of, table_from}
-use Rattle.dirac_blocks.specs.Reached.{ListIsRead}
+use Rattle.dirac_blocks.specs.Reached.{BlockIsRead, StepMoves}
 use Rattle.dirac_block_table.specs.Tables.{BlockTable}
-
--- behind a list that is read, what comes then is read
-pub then_read : {A : Type 0} (r : Result A Refusal) (s : Syntax BlockTable) (f : BlockTable → Syntax BlockTable) (c e d : Cursor) (t u : BlockTable) → read s c ≡ Ok (t, e) → ListIsRead r u d (read (f t) e) → ListIsRead r u d (read (s >>= f) c)
-then_read r s f c e d t u first second =
-    subst (λ (q : Result (BlockTable × Cursor) Refusal). ListIsRead r u d q) (sym (read_then s f c ∙ ap (λ (q : Result (BlockTable × Cursor) Refusal). q >> (λ x. read (f x.0) x.1)) first)) second
 
 -- what refuses a list refuses them all
 pub then_refused : (s : Syntax BlockTable) (f : BlockTable → Syntax BlockTable) (c : Cursor) (e : Refusal) → read s c ≡ Err e → read (s >>= f) c ≡ Err e
 then_refused s f c e refused = read_then s f c ∙ ap (λ (q : Result (BlockTable × Cursor) Refusal). q >> (λ x. read (f x.0) x.1)) refused
 
--- or what refuses what comes behind it
-pub then_stops : (s : Syntax BlockTable) (f : BlockTable → Syntax BlockTable) (c d : Cursor) (t : BlockTable) (e : Refusal) → read s c ≡ Ok (t, d) → read (f t) d ≡ Err e → read (s >>= f) c ≡ Err e
-then_stops s f c d t e first second = read_then s f c ∙ ap (λ (q : Result (BlockTable × Cursor) Refusal). q >> (λ x. read (f x.0) x.1)) first ∙ second
-
 -- a list is read from its block
-pub list_found : (step : TableStep) (t u : BlockTable) (c one two three : Cursor) (len : ℕ) (block : List ℕ) (start behind : Reading) → uint_at c ≡ Ok (len, one) → two ≡ aligned one → block_read_at len two ≡ Ok (block, three) → start ≡ begin block
-    → coded.read_coded (step t) start ≡ Ok (u, behind) → read (list_over step t) c ≡ Ok (u, three)
+pub list_found : (step : TableStep) (t u : BlockTable) (c one two three : Cursor) (len : ℕ) (block : List ℕ) (behind : Reading) → uint_at c ≡ Ok (len, one) → two ≡ aligned one → block_read_at len two ≡ Ok (block, three)
+    → coded.read_coded (step t) (begin block) ≡ Ok (u, behind) → read (list_over step t) c ≡ Ok (u, three)
 unfolding list_over
-list_found step t u c one two three len block start behind first second third begun found =
+list_found step t u c one two three len block behind first second third found =
     let bytes = ap (λ (d : Cursor). block_read_at len d) (sym second) ∙ third in
-    let is = ap (λ (r : Reading). coded.read_coded (step t) r) (sym begun) ∙ found in
-    rw (first, bytes) (ap (λ (q : Result (BlockTable × Reading) Cause). read (table_from (place (aligned one)) q) three) is)
+    rw (first, bytes) (ap (λ (q : Result (BlockTable × Reading) Cause). read (table_from (place (aligned one)) q) three) found)
 
 -- and is refused at its block
-pub list_refused : (step : TableStep) (t : BlockTable) (c one two three : Cursor) (len : ℕ) (block : List ℕ) (start : Reading) (cause : Cause) (at : ℕ) → uint_at c ≡ Ok (len, one) → two ≡ aligned one → block_read_at len two ≡ Ok (block, three) → start ≡ begin block
-    → coded.read_coded (step t) start ≡ Err cause → at ≡ place two → read (list_over step t) c ≡ Err (record { at = at; cause = cause })
+pub list_refused : (step : TableStep) (t : BlockTable) (c one two three : Cursor) (len : ℕ) (block : List ℕ) (cause : Cause) (at : ℕ) → uint_at c ≡ Ok (len, one) → two ≡ aligned one → block_read_at len two ≡ Ok (block, three)
+    → coded.read_coded (step t) (begin block) ≡ Err cause → at ≡ place two → read (list_over step t) c ≡ Err (record { at = at; cause = cause })
 unfolding list_over
-list_refused step t c one two three len block start cause at first second third begun refused here =
+list_refused step t c one two three len block cause at first second third refused here =
     let bytes = ap (λ (d : Cursor). block_read_at len d) (sym second) ∙ third in
-    let is = ap (λ (r : Reading). coded.read_coded (step t) r) (sym begun) ∙ refused in
     let place_is : place (aligned one) ≡ at = ap (λ (d : Cursor). place d) (sym second) ∙ sym here in
     rw (first, bytes)
-    (ap (λ (q : Result (BlockTable × Reading) Cause). read (table_from (place (aligned one)) q) three) is
+    (ap (λ (q : Result (BlockTable × Reading) Cause). read (table_from (place (aligned one)) q) three) refused
     ∙ ap (λ (p : ℕ). let x : Result (BlockTable × Cursor) Refusal = Err (record { at = p; cause = cause }) in x) place_is)
 
 -- its length is refused
@@ -68,9 +56,8 @@ unfolding blocks
 blocks_read across down refs t c one q made begun found =
     subst (λ (d : Cursor). read (lists_of (empty_table across down refs)) d ≡ q) begun (subst (λ (u : BlockTable). read (lists_of u) one ≡ q) made found)
 
--- a list of which a part is named isn't that of the splits
-pub not_splits : {P : Type 0} (part : ListKind) → (let q : Option ListKind = Some part in q ≡ None) → P
-not_splits part e = absurd (none part e)
-  where
-    none : (part : ListKind) → (let q : Option ListKind = Some part in q ≡ None) → ⊥
-    none part e = cc
+-- what the steps read from a reading that begins, they read from its block
+pub block_found : {A : Type 0} (r : Result A Cause) (steps : coded.Coded BlockTable) (block : List ℕ) (u : BlockTable) (start behind : Reading) → start ≡ begin block
+    → StepMoves r u behind (coded.read_coded steps start) → BlockIsRead r u steps block
+block_found (Ok x) steps block u start behind begun found = (behind, ap (λ (s : Reading). coded.read_coded steps s) (sym begun) ∙ found)
+block_found (Err cause) steps block u start behind begun found = ap (λ (s : Reading). coded.read_coded steps s) (sym begun) ∙ found

@@ -8,6 +8,7 @@ mod Forwards
 mod Fronts
 mod Going
 mod InContexts
+mod InOrder
 mod InTurn
 mod Narrowing
 pub mod Nearby

@@ -22,6 +22,9 @@ shape_refl t = record { across = refl; down = refl; refs = refl; splits = refl }
 pub shape_join : (a b c : BlockTable) → SameShape a b → SameShape b c → SameShape a c
 shape_join a b c p q = record { across = q.across ∙ p.across; down = q.down ∙ p.down; refs = q.refs ∙ p.refs; splits = q.splits ∙ p.splits }
 
+pub size_refl : (t : BlockTable) → SameSize t t
+size_refl t = record { across = refl; down = refl; refs = refl }
+
 pub size_join : (a b c : BlockTable) → SameSize a b → SameSize b c → SameSize a c
 size_join a b c p q = record { across = q.across ∙ p.across; down = q.down ∙ p.down; refs = q.refs ∙ p.refs }
 

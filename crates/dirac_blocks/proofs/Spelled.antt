@@ -1,5 +1,5 @@
 -- The bits of a block table that is written spell it, so they are read as the same table.
-use Rattle.std.proofs.Common.{◌≡◌, ℕ, ◌+◌, ◌-◌, ◌*◌, ◌/◌, ◌%◌, ◌^◌, ◌<◌, ◌≤◌, inl, inr, Bool, List, [], ◌∷◌, ◌++◌, length, map, replicate, Option, Some, None, Result, OnOk, refl, sym, ap, ◌∙◌, arith, subst, append_assoc, append-nil, length-append, get_or, ext_get_or}
+use Rattle.std.proofs.Common.{◌≡◌, ℕ, ◌+◌, ◌-◌, ◌*◌, ◌/◌, ◌%◌, ◌^◌, ◌<◌, ◌≤◌, inl, inr, Bool, List, [], ◌∷◌, ◌++◌, length, map, replicate, Option, Some, None, Result, refl, sym, ap, ◌∙◌, arith, subst, append_assoc, append-nil, length-append, get_or, ext_get_or}
 use Rattle.std.specs.Prelude.{if◌then◌else◌}
 use Rattle.std.proofs.lemmas.Bool.{cases_eq, cases_lt, eq-eqb, ne_eqb}
 use Rattle.std.proofs.lemmas.List.{length-replicate, length-map, get_or-map, get_or-replicate, get_or_past}
@@ -9,7 +9,6 @@ use Rattle.dirac_common.specs.declared.faults.Cause.{Cause}
 use Rattle.dirac_common.specs.declared.formats.Vector.{Vector}
 use Rattle.dirac_common.specs.Bits.{bits_of}
 use Rattle.dirac_common.specs.Numbers.{uint}
-use Rattle.dirac_common.proofs.Answers.{ok_both}
 use Rattle.dirac_arith.specs.Deciding.{begin}
 use Rattle.dirac_arith.specs.Interval.{Decision}
 use Rattle.dirac_arith.specs.Written.{flush}
@@ -312,24 +311,3 @@ table_spelled t old inv whole short =
 pub short_append : (xs ys : List (List Decision)) → ListsHaveShortBlocks xs → ListsHaveShortBlocks ys → ListsHaveShortBlocks (xs ++ ys)
 short_append [] ys p q = q
 short_append (x ∷ xs) ys p q = (p.0, short_append xs ys p.1 q)
-
--- the writers of the lists, one after the other
-pub written_spelled : {T E : Type 0} (r : Result T E) (t : BlockTable) (old b1 b2 b3 b4 new : List Bool) → IsBlockTable t → IsWhole old
-    → b1 ≡ with_block (flush (split_rows t.across (least_numbers t) t.down)) old → length (flush (split_rows t.across (least_numbers t) t.down)) + 1 < 2 ^ 39
-    → b2 ≡ with_block (flush (unit_decisions t (part_at parts.Modes t))) b1 → length (flush (unit_decisions t (part_at parts.Modes t))) + 1 < 2 ^ 39
-    → (let first = unit_decisions t (part_at (parts.Across references.First) t) ∷ unit_decisions t (part_at (parts.Down references.First) t) ∷ [] in
-    (b3 ≡ with_lists first b2) × ListsHaveShortBlocks first)
-    → b4 ≡ with_lists (second_lists t) b3 → ListsHaveShortBlocks (second_lists t)
-    → (let dcs = unit_decisions t (part_at (parts.Dc components.Y) t) ∷ unit_decisions t (part_at (parts.Dc components.U) t) ∷ unit_decisions t (part_at (parts.Dc components.V) t) ∷ [] in
-    OnOk r (new ≡ with_lists dcs b4) → OnOk r (ListsHaveShortBlocks dcs) → OnOk r (SpelledBehind (blocks t.across t.down t.refs) t old new))
-written_spelled r t old b1 b2 b3 b4 new inv whole e1 s1 e2 s2 p3 e4 s4 exact short =
-    ok_both (new ≡ with_lists (dc_lists t) b4) (ListsHaveShortBlocks (dc_lists t)) (SpelledBehind (blocks t.across t.down t.refs) t old new)
-    (λ e s.
-    let lists : ListsHaveShortBlocks (block_decisions t (least_numbers t)) = (s1, (s2, (p3.1.0, (p3.1.1.0, short_append (second_lists t) (dc_lists t) s4 s)))) in
-    let first : List Bool → List Bool = λ l. with_lists (unit_decisions t (part_at (parts.Across references.First) t) ∷ unit_decisions t (part_at (parts.Down references.First) t) ∷ []) l in
-    let bits : new ≡ with_lists (block_decisions t (least_numbers t)) old =
-    e
-    ∙ ap (λ (l : List Bool). with_lists (dc_lists t) l) (e4 ∙ ap (λ (l : List Bool). with_lists (second_lists t) l) (p3.0 ∙ ap first (e2 ∙ ap (λ (l : List Bool). with_block (flush (unit_decisions t (part_at parts.Modes t))) l) e1)))
-    ∙ sym (lists_append (second_lists t) (dc_lists t) (first (with_block (flush (unit_decisions t (part_at parts.Modes t))) (with_block (flush (split_rows t.across (least_numbers t) t.down)) old)))) in
-    subst (λ (l : List Bool). SpelledBehind (blocks t.across t.down t.refs) t old l) (sym bits) (table_spelled t old inv whole lists))
-    r exact short

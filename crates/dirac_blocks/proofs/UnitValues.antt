@@ -18,10 +18,13 @@ use Rattle.dirac_common.specs.declared.formats.Component.{Component}
 use Rattle.dirac_common.specs.declared.formats.Component.TheVariants as components
 use Rattle.dirac_block_table.specs.declared.reference.Reference.{Reference}
 use Rattle.dirac_block_table.specs.declared.reference.Reference.TheVariants as references
-use Rattle.dirac_vectors.specs.Predictions.{mode_of}
-use Rattle.dirac_blocks.specs.Decisions.{differ, less_prediction, predicted, ref1_at}
-use Rattle.dirac_blocks.specs.Grammar.{block_using, coded_into, is_dc, has_16_bits, mode_coded, second_use, uses, value_coded, with_across, with_dc, with_down}
-use Rattle.dirac_block_table.specs.Tables.{BlockTable, IsBlock}
+use Rattle.dirac_vectors.specs.Predictions.{mode_of, vector_of}
+use Rattle.dirac_blocks.specs.declared.parts.Axis.{Axis}
+use Rattle.dirac_blocks.specs.declared.parts.Axis.TheVariants as axes
+use Rattle.dirac_blocks.specs.Decisions.{differ, less_prediction, predicted, ref1_at, vector_part}
+use Rattle.dirac_blocks.specs.Parts.{component_list, component_of, part_at, vector_at}
+use Rattle.dirac_blocks.specs.Grammar.{block_using, coded_into, component_coded, is_dc, has_16_bits, mode_coded, second_use, unit_coded, uses, value_coded, with_component, with_dc}
+use Rattle.dirac_block_table.specs.Tables.{BlockTable, IsBlock, block_at}
 
 -- a value that has 16 bits is found
 pub value_found : (cause : Cause) (follow : List ℕ) (bits sign : ℕ) (prediction number v : ℤ) (old new : Reading)
@@ -49,13 +52,21 @@ pub into_refused : (has : Bool) (b : Block) (put : Block → ℤ → Block) (val
 into_refused true b put value old e is shut = then_is_read value (λ w. done (put b w)) old ∙ rw shut refl
 into_refused false b put value old e is shut = absurd (both_ways false refl is)
 
-pub across_lawful : (refs : ℕ) (k : Reference) (b : Block) (v : ℤ) → IsBlock refs b → uses k b ≡ true → IsShort v → IsBlock refs (with_across k b v)
-across_lawful refs references.First b v h is short = grind arith
-across_lawful refs references.Second b v h is short = grind arith
+pub component_lawful : (refs : ℕ) (a : Axis) (k : Reference) (b : Block) (v : ℤ) → IsBlock refs b → uses k b ≡ true → IsShort v → IsBlock refs (with_component a k b v)
+component_lawful refs axes.Across references.First b v h is short = grind arith
+component_lawful refs axes.Across references.Second b v h is short = grind arith
+component_lawful refs axes.Down references.First b v h is short = grind arith
+component_lawful refs axes.Down references.Second b v h is short = grind arith
 
-pub down_lawful : (refs : ℕ) (k : Reference) (b : Block) (v : ℤ) → IsBlock refs b → uses k b ≡ true → IsShort v → IsBlock refs (with_down k b v)
-down_lawful refs references.First b v h is short = grind arith
-down_lawful refs references.Second b v h is short = grind arith
+-- one rule for both components of a vector
+pub component_is : (a : Axis) (k : Reference) (t : BlockTable) (i j : ℕ) → unit_coded (component_list a k) t i j
+    ≡ coded_into (uses k (block_at t i j)) (block_at t i j) (with_component a k) (component_coded (component_of a (predicted vector_of (vector_at k t) i j)))
+component_is axes.Across k t i j = refl
+component_is axes.Down k t i j = refl
+
+pub component_told : (a : Axis) (k : Reference) (t : BlockTable) (i j : ℕ) → part_at (component_list a k) t i j ≡ vector_part (vector_at k t) (component_of a) i j
+component_told axes.Across k t i j = refl
+component_told axes.Down k t i j = refl
 
 pub dc_lawful : (refs : ℕ) (c : Component) (b : Block) (v : ℤ) → IsBlock refs b → (b.ref1 || b.ref2) ≡ false → IsShort v → IsBlock refs (with_dc c b v)
 dc_lawful refs components.Y b v h is short = grind arith

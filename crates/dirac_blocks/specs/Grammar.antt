@@ -20,6 +20,8 @@ use Rattle.dirac_block_table.specs.declared.reference.Reference.{Reference}
 use Rattle.dirac_block_table.specs.declared.reference.Reference.TheVariants as references
 use Rattle.dirac_common.specs.declared.formats.Component.{Component}
 use Rattle.dirac_common.specs.declared.formats.Component.TheVariants as components
+use Rattle.dirac_blocks.specs.declared.parts.Axis.{Axis}
+use Rattle.dirac_blocks.specs.declared.parts.Axis.TheVariants as axes
 use Rattle.dirac_blocks.specs.declared.parts.ListKind.{ListKind}
 use Rattle.dirac_blocks.specs.declared.parts.ListKind.TheVariants as parts
 use Rattle.dirac_block_table.specs.Tables.{BlockTable, grey, split_at, block_at, unit_size}
@@ -90,6 +92,11 @@ with_across references.Second b v = record b { v2 = record { x = v; y = b.v2.y }
 abbrev pub with_down : Reference → Block → ℤ → Block
 with_down references.First b v = record b { v1 = record { x = b.v1.x; y = v } }
 with_down references.Second b v = record b { v2 = record { x = b.v2.x; y = v } }
+
+-- the same of the component along an axis
+abbrev pub with_component : Axis → Reference → Block → ℤ → Block
+with_component axes.Across = with_across
+with_component axes.Down = with_down
 
 -- the block with a DC value
 abbrev pub with_dc : Component → Block → ℤ → Block

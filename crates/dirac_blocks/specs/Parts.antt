@@ -1,11 +1,16 @@
 -- The lists of a block table that tell something of each unit, by their parts.
-use Rattle.std.specs.Prelude.{ℕ, List}
+use Rattle.std.specs.Prelude.{ℕ, ℤ, ◌==◌, Bool, true, if◌then◌else◌, List, [], ◌∷◌, Option, Some, None}
+use Rattle.dirac_common.specs.declared.formats.Vector.{Vector}
 use Rattle.dirac_arith.specs.Interval.{Decision}
+use Rattle.dirac_blocks.specs.declared.parts.Axis.{Axis}
+use Rattle.dirac_blocks.specs.declared.parts.Axis.TheVariants as axis
 use Rattle.dirac_blocks.specs.declared.parts.ListKind.{ListKind}
 use Rattle.dirac_blocks.specs.declared.parts.ListKind.TheVariants as part
+use Rattle.dirac_block_table.specs.declared.reference.Reference.{Reference}
+use Rattle.dirac_block_table.specs.declared.reference.Reference.TheVariants as reference
 pub use Rattle.dirac_block_table.specs.Neighbours.{use_at, vector_at, dc_at}
 use Rattle.dirac_block_table.specs.Tables.{BlockTable}
-use Rattle.dirac_blocks.specs.Decisions.{mode_part, vector_part, dc_part}
+use Rattle.dirac_blocks.specs.Decisions.{mode_part, vector_part, dc_part, least_numbers, split_rows, unit_decisions}
 
 -- what a part tells of a unit
 abbrev pub part_at : ListKind → BlockTable → ℕ → ℕ → List Decision
@@ -13,3 +18,32 @@ part_at part.Modes t i j = mode_part t i j
 part_at (part.Across r) t i j = vector_part (vector_at r t) (λ v. v.x) i j
 part_at (part.Down r) t i j = vector_part (vector_at r t) (λ v. v.y) i j
 part_at (part.Dc c) t i j = dc_part (dc_at c t) i j
+
+-- whether a list is there in a table of that many references
+abbrev pub is_there : Option ListKind → ℕ → Bool
+is_there None refs = true
+is_there (Some part.Modes) refs = true
+is_there (Some (part.Across reference.First)) refs = true
+is_there (Some (part.Across reference.Second)) refs = refs == 2
+is_there (Some (part.Down reference.First)) refs = true
+is_there (Some (part.Down reference.Second)) refs = refs == 2
+is_there (Some (part.Dc c)) refs = true
+
+-- a list of a table: the splits, or what the list tells of each unit
+abbrev pub list_decisions : Option ListKind → BlockTable → List Decision
+list_decisions None t = split_rows t.across (least_numbers t) t.down
+list_decisions (Some p) t = unit_decisions t (part_at p t)
+
+-- that list, where it is there
+abbrev pub list_there : Option ListKind → BlockTable → List (List Decision)
+list_there list t = if is_there list t.refs then list_decisions list t ∷ [] else []
+
+-- a component of a vector
+abbrev pub component_of : Axis → Vector → ℤ
+component_of axis.Across v = v.x
+component_of axis.Down v = v.y
+
+-- the list that tells this component of the vectors of a reference
+abbrev pub component_list : Axis → Reference → ListKind
+component_list axis.Across k = part.Across k
+component_list axis.Down k = part.Down k

@@ -1,7 +1,9 @@
 -- What a reader of a block table keeps, and how far it has come.
-use Rattle.std.specs.Prelude.{◌≡◌, Result, Ok, Err}
+use Rattle.std.specs.Prelude.{◌≡◌, ℕ, List, Result, Ok, Err}
 use Rattle.dirac_common.specs.declared.faults.Cause.{Cause}
 use Rattle.dirac_common.specs.declared.faults.Refusal.{Refusal}
+use Rattle.dirac_arith.specs.Coded.{Coded, read_coded}
+use Rattle.dirac_arith.specs.Deciding.{begin}
 use Rattle.dirac_arith.specs.Reading.{Reading}
 use Rattle.dirac_bits.specs.Cursor.{Cursor}
 pub use Rattle.dirac_block_table.specs.Filling.{AllGrey, IsFirstOfUnit}
@@ -12,6 +14,11 @@ abbrev pub StepMoves : {A : Type 0} → Result A Cause → BlockTable → Readin
     → Type 0
 StepMoves (Ok x) table reading step = step ≡ Ok (table, reading)
 StepMoves (Err cause) table reading step = step ≡ Err cause
+
+-- the answer is what these steps read from a block, from which the table comes
+abbrev pub BlockIsRead : {A : Type 0} → Result A Cause → BlockTable → Coded BlockTable → List ℕ → Type 0
+BlockIsRead (Ok x) table steps block = (behind : Reading) × (read_coded steps (begin block) ≡ Ok (table, behind))
+BlockIsRead (Err cause) table steps block = read_coded steps (begin block) ≡ Err cause
 
 -- the answer is what is read, from which the table and the reader's place come
 abbrev pub ListIsRead : {A : Type 0} → Result A Refusal → BlockTable → Cursor → Result (BlockTable × Cursor) Refusal

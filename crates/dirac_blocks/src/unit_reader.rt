@@ -3,11 +3,12 @@ ghost use Rattle.dirac_arith.specs.Deciding.{GivesReading};
 ghost use Rattle.dirac_arith.specs.Spelling.{AreContexts};
 ghost use Rattle.dirac_vectors.specs.Neighbours.{IsShort};
 ghost use Rattle.dirac_arith.specs.Coded.{read_coded};
-ghost use Rattle.dirac_blocks.specs.Grammar.{block_using, component_coded, is_dc, has_16_bits, mode_coded, second_use};
-ghost use Rattle.dirac_blocks.specs.Grammar.{unit_coded, uses, value_coded, with_across, with_dc, with_down};
+ghost use Rattle.dirac_blocks.specs.Grammar.{block_using, is_dc, has_16_bits, mode_coded, second_use};
+ghost use Rattle.dirac_blocks.specs.Grammar.{unit_coded, uses, value_coded, with_component, with_dc};
+ghost use Rattle.dirac_blocks.specs.Parts.{component_list};
 ghost use Rattle.dirac_block_table.specs.Tables.{IsBlock};
 
-use crate::parts::ListKind;
+use crate::parts::{Axis, ListKind, component};
 use crate::unit_writer::differs;
 use dirac_arith::{
     CONTEXTS, DC_DIGITS, DC_FOLLOW, DC_SIGN, Decoder, REFERENCE_1, REFERENCE_2, VECTOR_DIGITS,
@@ -57,24 +58,6 @@ fn read_value(
         }
         Err(e) => Err(e),
     }
-}
-
-/// Reads a component of a vector that is predicted.
-fn read_component(decoder: &mut Decoder<'_>, prediction: i32) -> Result<i32, Cause>
-    requires prediction { IsShort prediction }
-    requires no_overflow { decoder.old.at.doublings < 2 ^ 61 }
-    ensures value { GivesReading result decoder.new (read_coded (component_coded prediction) decoder.old) }
-    ensures short { IfOk result IsShort }
-    ensures few_doublings { decoder.new.at.doublings ≤ decoder.old.at.doublings + 702 }
-{
-    read_value(
-        decoder,
-        Cause::VectorRange,
-        &VECTOR_FOLLOW,
-        VECTOR_DIGITS,
-        VECTOR_SIGN,
-        prediction,
-    )
 }
 
 /// Reads whether a unit uses reference 2, where there is one; `i` and `j` are the place of its first block.
@@ -151,24 +134,19 @@ fn has_reference(block: Block, reference: Reference) -> bool
     }
 }
 
-/// The block with this horizontal component of a vector.
-fn set_across(mut block: Block, reference: Reference, value: i32) -> Block
-    ensures { result ≡ with_across reference block value }
+/// The block with this component of a vector.
+fn set_component(mut block: Block, axis: Axis, reference: Reference, value: i32) -> Block
+    ensures { result ≡ with_component axis reference block value }
 {
-    match reference {
-        Reference::First => block.v1.x = value,
-        Reference::Second => block.v2.x = value,
-    }
-    block
-}
-
-/// The block with this vertical component of a vector.
-fn set_down(mut block: Block, reference: Reference, value: i32) -> Block
-    ensures { result ≡ with_down reference block value }
-{
-    match reference {
-        Reference::First => block.v1.y = value,
-        Reference::Second => block.v2.y = value,
+    match axis {
+        Axis::Across => match reference {
+            Reference::First => block.v1.x = value,
+            Reference::Second => block.v2.x = value,
+        },
+        Axis::Down => match reference {
+            Reference::First => block.v1.y = value,
+            Reference::Second => block.v2.y = value,
+        },
     }
     block
 }
@@ -185,10 +163,11 @@ fn set_dc(mut block: Block, component: Component, value: i32) -> Block
     block
 }
 
-/// Reads the horizontal component of a unit's vector, where the unit uses the reference.
-fn read_across(
+/// Reads a component of a unit's vector, where the unit uses the reference.
+fn read_vector(
     decoder: &mut Decoder<'_>,
     table: &BlockData,
+    axis: Axis,
     reference: Reference,
     i: u32,
     j: u32,
@@ -196,8 +175,8 @@ fn read_across(
     requires column { i < 4 * table.now.across }
     requires row { j < 4 * table.now.down }
     requires no_overflow { decoder.old.at.doublings < 2 ^ 61 }
-    ensures value { GivesReading result decoder.new (read_coded (unit_coded (ListKind.Across reference) table.now i j)
-        decoder.old) }
+    ensures value { GivesReading result decoder.new
+        (read_coded (unit_coded (component_list axis reference) table.now i j) decoder.old) }
     ensures block { IfOk result (IsBlock table.now.refs) }
     ensures few_doublings { decoder.new.at.doublings ≤ decoder.old.at.doublings + 702 }
 {
@@ -205,36 +184,16 @@ fn read_across(
     if !has_reference(block, reference) {
         return Ok(block);
     }
-    let prediction = predicted_vector(table, reference, i, j);
-    match read_component(decoder, prediction.x) {
-        Ok(value) => Ok(set_across(block, reference, value)),
-        Err(e) => Err(e),
-    }
-}
-
-/// Reads the vertical component of a unit's vector, where the unit uses the reference.
-fn read_down(
-    decoder: &mut Decoder<'_>,
-    table: &BlockData,
-    reference: Reference,
-    i: u32,
-    j: u32,
-) -> Result<Block, Cause>
-    requires column { i < 4 * table.now.across }
-    requires row { j < 4 * table.now.down }
-    requires no_overflow { decoder.old.at.doublings < 2 ^ 61 }
-    ensures value { GivesReading result decoder.new (read_coded (unit_coded (ListKind.Down reference) table.now i j)
-        decoder.old) }
-    ensures block { IfOk result (IsBlock table.now.refs) }
-    ensures few_doublings { decoder.new.at.doublings ≤ decoder.old.at.doublings + 702 }
-{
-    let block = table.at(i, j);
-    if !has_reference(block, reference) {
-        return Ok(block);
-    }
-    let prediction = predicted_vector(table, reference, i, j);
-    match read_component(decoder, prediction.y) {
-        Ok(value) => Ok(set_down(block, reference, value)),
+    let prediction = component(predicted_vector(table, reference, i, j), axis);
+    match read_value(
+        decoder,
+        Cause::VectorRange,
+        &VECTOR_FOLLOW,
+        VECTOR_DIGITS,
+        VECTOR_SIGN,
+        prediction,
+    ) {
+        Ok(value) => Ok(set_component(block, axis, reference, value)),
         Err(e) => Err(e),
     }
 }
@@ -290,8 +249,10 @@ pub fn read_unit_block(
 {
     match part {
         ListKind::Modes => read_mode(decoder, table, i, j),
-        ListKind::Across(reference) => read_across(decoder, table, reference, i, j),
-        ListKind::Down(reference) => read_down(decoder, table, reference, i, j),
+        ListKind::Across(reference) => {
+            read_vector(decoder, table, Axis::Across, reference, i, j)
+        }
+        ListKind::Down(reference) => read_vector(decoder, table, Axis::Down, reference, i, j),
         ListKind::Dc(component) => read_dc(decoder, table, component, i, j),
     }
 }

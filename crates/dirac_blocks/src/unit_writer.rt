@@ -3,9 +3,9 @@ ghost use Rattle.dirac_arith.specs.Interval.{narrowed_by};
 ghost use Rattle.dirac_arith.specs.Spelling.{AreContexts, signed_spelling};
 ghost use Rattle.dirac_vectors.specs.Neighbours.{IsShort};
 ghost use Rattle.dirac_blocks.specs.Decisions.{differ, mode_part};
-ghost use Rattle.dirac_blocks.specs.Parts.{part_at};
+ghost use Rattle.dirac_blocks.specs.Parts.{component_list, part_at};
 
-use crate::parts::ListKind;
+use crate::parts::{Axis, ListKind, component};
 use dirac_arith::{
     CONTEXTS, DC_DIGITS, DC_FOLLOW, DC_SIGN, Encoder, REFERENCE_1, REFERENCE_2, VECTOR_DIGITS,
     VECTOR_FOLLOW, VECTOR_SIGN,
@@ -67,19 +67,21 @@ fn write_modes(encoder: &mut Encoder, table: &BlockData, i: u32, j: u32) -> Resu
     }
 }
 
-/// Writes the horizontal component of a unit's vector, by its first block.
-fn write_across(
+/// Writes a component of a unit's vector, by its first block.
+fn write_vector(
     encoder: &mut Encoder,
     table: &BlockData,
+    axis: Axis,
     reference: Reference,
     i: u32,
     j: u32,
 ) -> Result<(), NoMemory>
     requires column { i < 4 * table.now.across }
     requires row { j < 4 * table.now.down }
-    ensures { OnOk result (encoder.new ≡ narrowed_by encoder.old (part_at (ListKind.Across reference) table.now i j)) }
+    ensures { OnOk result (encoder.new ≡ narrowed_by encoder.old
+        (part_at (component_list axis reference) table.now i j)) }
 {
-    let prediction = predicted_vector(table, reference, i, j);
+    let prediction = component(predicted_vector(table, reference, i, j), axis);
     match vector(table, reference, i, j) {
         None => Ok(()),
         Some(v) => write_less(
@@ -87,34 +89,8 @@ fn write_across(
             &VECTOR_FOLLOW,
             VECTOR_DIGITS,
             VECTOR_SIGN,
-            prediction.x,
-            v.x,
-        ),
-    }
-}
-
-/// Writes the vertical component of a unit's vector, by its first block.
-fn write_down(
-    encoder: &mut Encoder,
-    table: &BlockData,
-    reference: Reference,
-    i: u32,
-    j: u32,
-) -> Result<(), NoMemory>
-    requires column { i < 4 * table.now.across }
-    requires row { j < 4 * table.now.down }
-    ensures { OnOk result (encoder.new ≡ narrowed_by encoder.old (part_at (ListKind.Down reference) table.now i j)) }
-{
-    let prediction = predicted_vector(table, reference, i, j);
-    match vector(table, reference, i, j) {
-        None => Ok(()),
-        Some(v) => write_less(
-            encoder,
-            &VECTOR_FOLLOW,
-            VECTOR_DIGITS,
-            VECTOR_SIGN,
-            prediction.y,
-            v.y,
+            prediction,
+            component(v, axis),
         ),
     }
 }
@@ -152,8 +128,10 @@ pub fn write_unit(
 {
     match part {
         ListKind::Modes => write_modes(encoder, table, i, j),
-        ListKind::Across(reference) => write_across(encoder, table, reference, i, j),
-        ListKind::Down(reference) => write_down(encoder, table, reference, i, j),
+        ListKind::Across(reference) => {
+            write_vector(encoder, table, Axis::Across, reference, i, j)
+        }
+        ListKind::Down(reference) => write_vector(encoder, table, Axis::Down, reference, i, j),
         ListKind::Dc(component) => write_dc(encoder, table, component, i, j),
     }
 }

@@ -1,35 +1,45 @@
-use Rattle.dirac_bits.specs.Syntax.{◌>>=◌}
-use Rattle.dirac_blocks.specs.declared.parts.ListKind.TheVariants as parts
-use Rattle.dirac_blocks.specs.Grammar.{list_over, lists_of, splits_step, units_step, values_listed}
-use Rattle.dirac_blocks.proofs.InTurn.{not_splits, then_read, then_refused, then_stops}
+use Rattle.std.proofs.Common.{◌≡◌, ℕ, ◌+◌, refl, sym, ap, ◌∙◌, arith}
+use Rattle.dirac_bits.specs.Syntax.{read}
+use Rattle.dirac_blocks.specs.Grammar.{lists_of}
+use Rattle.dirac_blocks.specs.Parts.{is_there}
+use Rattle.dirac_blocks.proofs.InOrder.{left_to_read, list_absent, list_at, list_next, list_stops}
+use Rattle.dirac_blocks.proofs.Shapes.{size_join, size_refl}
 use Rattle.dirac_blocks.proofs.list_reader.read_lists.Goals as goal
+use Rattle.dirac_blocks.proofs.list_reader.read_lists.Goals.{then-is_there+in-Ok, else-is_there}
 
-pub returns-in-Ok-read_list-clause-value : goal.returns-in-Ok-read_list-clause-value
-unfolding lists_of
-returns-in-Ok-read_list-clause-value c =
-    let first = c.read_list.new in
-    let second = c.read_list-in-Ok.new in
-    let third = c.read_values in
-    let modes = units_step parts.Modes in
-    then_read third.result (list_over splits_step c.args.table.now) (λ t. list_over modes t >>= (λ n. values_listed n)) c.args.r.now first.r third.new.r first.table third.new.table c.in-Ok.ensures.value
-    (then_read third.result (list_over modes first.table) (λ n. values_listed n) first.r second.r third.new.r second.table third.new.table c.in-Ok-read_list.ensures.value third.ensures.value)
+pub lists-init : goal.lists-init
+lists-init c = record { value = refl; size = size_refl c.args.table.now; grey = λ e. c.requires; kept = refl }
 
-pub returns-in-Err-read_list-clause-value : goal.returns-in-Err-read_list-clause-value
-unfolding lists_of
-returns-in-Err-read_list-clause-value c =
-    let first = c.read_list.new in
-    let modes = units_step parts.Modes in
-    then_stops (list_over splits_step c.args.table.now) (λ t. list_over modes t >>= (λ n. values_listed n)) c.args.r.now first.r first.table c.in-Err-read_list.e c.in-Ok.ensures.value
-    (then_refused (list_over modes first.table) (λ n. values_listed n) first.r c.in-Err-read_list.e c.in-Err-read_list.ensures.value)
+pub lists-preserved : goal.lists-preserved
+lists-preserved c =
+    let n = c.lists.n in
+    let t = c.lists.table in
+    let refs : t.refs ≡ c.refs-refs.result = c.lists.invariant.size.refs ∙ sym c.refs-refs.ensures.value in
+    let asked = ap (λ (r : ℕ). is_there (list_at n) r) refs ∙ sym c.is_there.ensures in
+    elim c.if-is_there.branch [
+      | then-is_there+in-Ok w ↦
+          let u = w.read_list.new.table in
+          let next : read (lists_of c.args.table.now) c.args.r.now ≡ read (left_to_read (n + 1) u) w.read_list.new.r =
+          c.lists.invariant.value ∙ list_next n t u c.lists.r w.read_list.new.r (omega arith) (asked ∙ w.if-is_there.true) w.read_list.ensures.size.refs w.in-Ok.ensures.value in
+          record {
+            value = rw (w.r-is, w.table-is) next;
+            size = rw w.table-is (size_join c.args.table.now t u c.lists.invariant.size w.read_list.ensures.size);
+            grey = λ e. absurd (omega arith);
+            kept = rw w.r-is (w.read_list.ensures.kept ∙ c.lists.invariant.kept);
+          }
+      | else-is_there w ↦
+          record {
+            value = rw (w.r-is, w.table-is) (c.lists.invariant.value ∙ list_absent n t c.lists.r (omega arith) (asked ∙ w.if-is_there.false));
+            size = rw w.table-is c.lists.invariant.size;
+            grey = λ e. absurd (omega arith);
+            kept = rw w.r-is c.lists.invariant.kept;
+          }
+    ]
 
 pub returns-in-Err-clause-value : goal.returns-in-Err-clause-value
-unfolding lists_of
 returns-in-Err-clause-value c =
-    let modes = units_step parts.Modes in
-    then_refused (list_over splits_step c.args.table.now) (λ t. list_over modes t >>= (λ n. values_listed n)) c.args.r.now c.in-Err.e c.in-Err.ensures.value
-
-pub read_list-requires : goal.read_list-requires
-read_list-requires c = λ e. c.requires
-
-pub read_list-requires-in-Ok : goal.read_list-requires-in-Ok
-read_list-requires-in-Ok c = λ e. not_splits _ e
+    let n = c.lists.n in
+    let t = c.lists.table in
+    let refs : t.refs ≡ c.refs-refs.result = c.lists.invariant.size.refs ∙ sym c.refs-refs.ensures.value in
+    let there = ap (λ (r : ℕ). is_there (list_at n) r) refs ∙ sym c.is_there.ensures ∙ c.if-is_there.true in
+    c.lists.invariant.value ∙ list_stops n t c.lists.r c.in-Err.e (omega arith) there c.in-Err.ensures.value

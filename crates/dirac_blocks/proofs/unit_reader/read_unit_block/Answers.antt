@@ -11,22 +11,22 @@ pub returns-in-Modes-clause-few_doublings : goal.returns-in-Modes-clause-few_dou
 returns-in-Modes-clause-few_doublings c = omega (arith, c.read_mode.ensures.few_doublings)
 
 pub returns-in-Across-clause-value : goal.returns-in-Across-clause-value
-returns-in-Across-clause-value c = rw c.in-Across.is c.read_across.ensures.value
+returns-in-Across-clause-value c = rw c.in-Across.is c.read_vector.ensures.value
 
 pub returns-in-Across-clause-block : goal.returns-in-Across-clause-block
-returns-in-Across-clause-block c = c.read_across.ensures.block
+returns-in-Across-clause-block c = c.read_vector.ensures.block
 
 pub returns-in-Across-clause-few_doublings : goal.returns-in-Across-clause-few_doublings
-returns-in-Across-clause-few_doublings c = c.read_across.ensures.few_doublings
+returns-in-Across-clause-few_doublings c = c.read_vector.ensures.few_doublings
 
 pub returns-in-Down-clause-value : goal.returns-in-Down-clause-value
-returns-in-Down-clause-value c = rw c.in-Down.is c.read_down.ensures.value
+returns-in-Down-clause-value c = rw c.in-Down.is c.read_vector-in-Down.ensures.value
 
 pub returns-in-Down-clause-block : goal.returns-in-Down-clause-block
-returns-in-Down-clause-block c = c.read_down.ensures.block
+returns-in-Down-clause-block c = c.read_vector-in-Down.ensures.block
 
 pub returns-in-Down-clause-few_doublings : goal.returns-in-Down-clause-few_doublings
-returns-in-Down-clause-few_doublings c = c.read_down.ensures.few_doublings
+returns-in-Down-clause-few_doublings c = c.read_vector-in-Down.ensures.few_doublings
 
 pub returns-in-Dc-clause-value : goal.returns-in-Dc-clause-value
 returns-in-Dc-clause-value c = rw c.in-Dc.is c.read_dc.ensures.value

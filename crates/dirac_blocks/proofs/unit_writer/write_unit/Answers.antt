@@ -4,10 +4,10 @@ pub returns-in-Modes : goal.returns-in-Modes
 returns-in-Modes c = rw c.in-Modes.is c.write_modes.ensures
 
 pub returns-in-Across : goal.returns-in-Across
-returns-in-Across c = rw c.in-Across.is c.write_across.ensures
+returns-in-Across c = rw c.in-Across.is c.write_vector.ensures
 
 pub returns-in-Down : goal.returns-in-Down
-returns-in-Down c = rw c.in-Down.is c.write_down.ensures
+returns-in-Down c = rw c.in-Down.is c.write_vector-in-Down.ensures
 
 pub returns-in-Dc : goal.returns-in-Dc
 returns-in-Dc c = rw c.in-Dc.is c.write_dc.ensures

@@ -1,55 +1,47 @@
-use Rattle.std.proofs.Common.{◌++◌}
-use Rattle.dirac_bits.proofs.Fronts.{err_so}
-use Rattle.dirac_blocks.specs.Decisions.{second_lists}
-use Rattle.dirac_blocks.proofs.Fronts.{splits_of, modes_of, firsts_of, dcs_of, next_lists, first_lists, other_lists}
-use Rattle.dirac_blocks.proofs.Spelled.{written_spelled}
+use Rattle.std.proofs.Common.{◌≡◌, ℕ, Bool, List, refl, sym, ap, subst, ◌∙◌, arith}
+use Rattle.dirac_arith.specs.Interval.{Decision}
+use Rattle.dirac_bits.specs.Spelling.{SpelledBehind}
+use Rattle.dirac_blocks.specs.Decisions.{block_decisions, least_numbers}
+use Rattle.dirac_blocks.specs.Grammar.{blocks}
+use Rattle.dirac_blocks.specs.Parts.{list_there}
+use Rattle.dirac_blocks.specs.Written.{with_lists, ListsHaveShortBlocks}
+use Rattle.dirac_blocks.proofs.Appended.{lists_append}
+use Rattle.dirac_blocks.proofs.InOrder.{all_lists, broke_off, list_at, lists_before, lists_next}
+use Rattle.dirac_blocks.proofs.Spelled.{short_append, table_spelled}
 use Rattle.dirac_blocks.proofs.writer.write_blocks.Goals as goal
 
-pub returns-in-Ok-write_second-clause-spelled : goal.returns-in-Ok-write_second-clause-spelled
-returns-in-Ok-write_second-clause-spelled c =
-    written_spelled c.write_dcs.result c.args.blocks.now c.args.w.now c.write_splits.new.w c.write_part.new.w c.write_vectors.new.w c.write_second.new.w c.write_dcs.new.w
-    c.write_second.ensures.lawful c.requires
-    c.in-Ok.ensures.exact c.in-Ok.ensures.short
-    c.in-Ok-write_part.ensures.exact c.in-Ok-write_part.ensures.short
-    (c.in-Ok-write_vectors.ensures.exact, c.in-Ok-write_vectors.ensures.short)
-    c.in-Ok-write_second.ensures.exact c.in-Ok-write_second.ensures.short
-    c.write_dcs.ensures.exact c.write_dcs.ensures.short
+pub lists-init : goal.lists-init
+lists-init c = record { exact = refl; lists_have_short_blocks = tt }
+
+pub lists-preserved : goal.lists-preserved
+lists-preserved c =
+    let t = c.args.blocks.now in
+    let n = c.lists.n in
+    let next = list_there (list_at n) t in
+    record {
+      exact =
+          c.in-Ok.ensures.exact ∙ ap (λ (l : List Bool). with_lists next l) c.lists.invariant.exact ∙ sym (lists_append (lists_before t n) next c.args.w.now)
+          ∙ ap (λ (ds : List (List Decision)). with_lists ds c.args.w.now) (sym (lists_next t n));
+      lists_have_short_blocks =
+          subst ListsHaveShortBlocks (sym (lists_next t n)) (short_append (lists_before t n) next c.lists.invariant.lists_have_short_blocks c.in-Ok.ensures.lists_have_short_blocks);
+    }
+
+pub returns-clause-exact : goal.returns-clause-exact
+returns-clause-exact c =
+    let t = c.args.blocks.now in
+    let w = c.args.w.now in
+    let all : c.lists.n ≡ 9 = omega arith in
+    c.lists.invariant.exact ∙ ap (λ (n : ℕ). with_lists (lists_before t n) w) all ∙ ap (λ (ds : List (List Decision)). with_lists ds w) (all_lists t)
+
+pub returns-clause-spelled : goal.returns-clause-spelled
+returns-clause-spelled c =
+    let t = c.args.blocks.now in
+    let w = c.args.w.now in
+    let all : c.lists.n ≡ 9 = omega arith in
+    let short : ListsHaveShortBlocks (block_decisions t (least_numbers t)) =
+    subst ListsHaveShortBlocks (all_lists t) (subst (λ (n : ℕ). ListsHaveShortBlocks (lists_before t n)) all c.lists.invariant.lists_have_short_blocks) in
+    let exact = c.lists.invariant.exact ∙ ap (λ (n : ℕ). with_lists (lists_before t n) w) all ∙ ap (λ (ds : List (List Decision)). with_lists ds w) (all_lists t) in
+    subst (λ (l : List Bool). SpelledBehind (blocks t.across t.down t.refs) t w l) (sym exact) (table_spelled t w c.refs.ensures.lawful c.requires short)
 
 pub returns-in-Err-clause-front : goal.returns-in-Err-clause-front
-returns-in-Err-clause-front c =
-    let t = c.args.blocks.now in
-    let behind = modes_of t ++ (firsts_of t ++ (second_lists t ++ dcs_of t)) in
-    first_lists (splits_of t) behind c.in-Err.ensures.front
-
-pub returns-in-Err-write_part-clause-front : goal.returns-in-Err-write_part-clause-front
-returns-in-Err-write_part-clause-front c =
-    let t = c.args.blocks.now in
-    let behind = firsts_of t ++ (second_lists t ++ dcs_of t) in
-    let holds = first_lists (modes_of t) behind c.in-Err-write_part.ensures.front in
-    other_lists (splits_of t) (modes_of t ++ behind) c.in-Ok.ensures.exact holds
-
-pub returns-in-Err-write_vectors-clause-front : goal.returns-in-Err-write_vectors-clause-front
-returns-in-Err-write_vectors-clause-front c =
-    let t = c.args.blocks.now in
-    let behind = second_lists t ++ dcs_of t in
-    let two = next_lists c.args.w.now (splits_of t) (modes_of t) c.in-Ok.ensures.exact c.in-Ok-write_part.ensures.exact in
-    let holds = first_lists (firsts_of t) behind c.in-Err-write_vectors.ensures.front in
-    other_lists (splits_of t ++ modes_of t) (firsts_of t ++ behind) two holds
-
-pub returns-in-Err-write_second-clause-front : goal.returns-in-Err-write_second-clause-front
-returns-in-Err-write_second-clause-front c =
-    let t = c.args.blocks.now in
-    let two = next_lists c.args.w.now (splits_of t) (modes_of t) c.in-Ok.ensures.exact c.in-Ok-write_part.ensures.exact in
-    let three = next_lists c.args.w.now (splits_of t ++ modes_of t) (firsts_of t) two c.in-Ok-write_vectors.ensures.exact in
-    let holds = first_lists (second_lists t) (dcs_of t) c.in-Err-write_second.ensures.front in
-    other_lists (splits_of t ++ modes_of t ++ firsts_of t) (second_lists t ++ dcs_of t) three holds
-
-pub returns-in-Ok-write_second-clause-front : goal.returns-in-Ok-write_second-clause-front
-returns-in-Ok-write_second-clause-front c =
-    let t = c.args.blocks.now in
-    let two = next_lists c.args.w.now (splits_of t) (modes_of t) c.in-Ok.ensures.exact c.in-Ok-write_part.ensures.exact in
-    let three = next_lists c.args.w.now (splits_of t ++ modes_of t) (firsts_of t) two c.in-Ok-write_vectors.ensures.exact in
-    let behind = second_lists t in
-    err_so _
-    (λ holds. other_lists (splits_of t ++ modes_of t ++ firsts_of t) (behind ++ dcs_of t) three (other_lists behind (dcs_of t) c.in-Ok-write_second.ensures.exact holds))
-    c.write_dcs.ensures.front
+returns-in-Err-clause-front c = broke_off c.args.blocks.now c.lists.n (omega arith) c.lists.invariant.exact c.in-Err.ensures.front

@@ -1,0 +1,8 @@
+use Rattle.std.proofs.Common.{refl}
+use Rattle.dirac_bits.proofs.Fronts.{nothing_stands}
+use Rattle.dirac_blocks.specs.Parts.{list_there}
+use Rattle.dirac_blocks.proofs.Fronts.{lists_more}
+use Rattle.dirac_blocks.proofs.writer.write_list.Goals as goal
+
+pub returns-in-Err-clause-front : goal.returns-in-Err-clause-front
+returns-in-Err-clause-front c = lists_more (list_there c.args.list c.args.table.now) (nothing_stands refl)
