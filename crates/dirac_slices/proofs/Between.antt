@@ -112,6 +112,12 @@ inter_between g c rows predicted out from to lawful some inside is of made =
     ∙ sum_strip t rows f (filled (width_of s c) (height_of s c) f) predicted.values (width_of s c) (height_of s c) (to - from) from (part_size s c lawful).across.0 (omega arith)
     (residual_size s OfInter c g.residual t refl).0 (residual_length s OfInter c g.residual t refl) (strip_told s OfInter c g.residual from to rows is) refl (ap (λ (u : Table). u.values) of)
 
+-- as many values are predicted for rows
+pub predicted_length : (g : Lent) (c : Component) (predicted : Table) (from to : ℕ) → predicted ≡ predicted_between g c from to → length predicted.values ≡ width_of g.sequence c * (to - from)
+predicted_length g c predicted from to is =
+    ap (λ (t : Table). length t.values) is
+    ∙ filled_length (width_of g.sequence c) (to - from) (λ x y. predicted_at (compensation g.sequence g.motion g.first g.second c) x (from + y))
+
 -- the first rows of parts stand in order
 pub rows_grow : (h all n m : ℕ) → 0 < all → n ≤ m → first_row h all n ≤ first_row h all m
 rows_grow h all n m some l = le-div (h * n / all) (h * m) all some (omega (arith, div-mul-le_self (h * n) all, mul-le h n h m (omega arith) l))

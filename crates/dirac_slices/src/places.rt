@@ -23,5 +23,6 @@ pub(crate) fn first_row(height: u32, all: u32, part: u32) -> u32
     ensures value { result ≡ places.first_row height all part }
     ensures inside { result ≤ height }
 {
-    height * part / all
+    let scaled = height * part;
+    scaled / all
 }
