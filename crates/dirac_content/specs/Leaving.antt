@@ -6,7 +6,7 @@ use Rattle.dirac_common.specs.declared.faults.Refusal.{Refusal}
 use Rattle.dirac_common.specs.declared.picture.Picture.{Picture}
 use Rattle.dirac_io.specs.Writing.{AppendsFront}
 use Rattle.dirac_units.specs.declared.unit_place.UnitPlace.{UnitPlace}
-use Rattle.dirac_units.specs.Cut.{IsCut, UnitText, first_unit_place}
+use Rattle.dirac_units.specs.Cut.{IsCut, IsEndOfBytes, UnitText, first_unit_place}
 use Rattle.dirac_content.specs.Raw.{raws}
 use Rattle.dirac_content.specs.Shown.{IsShown, Outcome, accepted, outcome}
 use Rattle.dirac_content.specs.StreamState.{StreamState, StreamStep, stream_begun, unit_step}
@@ -22,8 +22,8 @@ leaving state [] = []
 leaving state (unit ∷ units) =
     leaving_on (λ next. leaving next units) (unit_step state unit.info.code unit.payload)
 
--- of these bytes some were read and just the others are held; the units that lie whole in those read are all accepted,
--- and a sink took just the pictures that leave while they are taken
+-- of these bytes some were read and just the others are held; the units that lie whole in those read are all accepted
+-- and no parse info behind them is refused, and a sink took just the pictures that leave while they are taken
 pub record IsBrokenOff (bytes : List ℕ) (held' taken taken' : Option (List ℕ)) : Type 0 where
   pub read : List ℕ
   pub rest : List ℕ
@@ -32,6 +32,7 @@ pub record IsBrokenOff (bytes : List ℕ) (held' taken taken' : Option (List ℕ
   pub units : List UnitText
   pub end : Option Fault
   pub cut : IsCut first_unit_place read units end
+  pub bytes_end : IsEndOfBytes end
   pub accepts : accepted stream_begun units ≡ units
   pub delivered : Appends taken taken' (raws (leaving stream_begun units))
 

@@ -9,7 +9,7 @@ use Rattle.dirac_common.specs.declared.picture.Picture.{Picture}
 use Rattle.dirac_units.specs.declared.info.ParseInfo.{ParseInfo}
 use Rattle.dirac_units.specs.declared.unit_place.UnitPlace.{UnitPlace}
 use Rattle.dirac_units.specs.declared.unit.Unit.{Unit}
-use Rattle.dirac_units.specs.Cut.{IsCut, UnitText, after, front_of}
+use Rattle.dirac_units.specs.Cut.{IsCut, IsEndOfBytes, UnitText, after, front_of}
 use Rattle.dirac_units.specs.Info.{fields_are_read, info_read, span_of}
 use Rattle.dirac_units.specs.Progress.{IsFirstUnit, IsPartTaken}
 use Rattle.dirac_units.proofs.Fronts.{front_is, front_whole}
@@ -129,11 +129,12 @@ passed_on (Some bytes) known' known'' a b c given more p second =
 
 -- ---- a read failed
 
-pub breaks_in : (known known' held' : Option (List ℕ)) (a b : Decoding) → b.due ≡ [] → IfSome known (λ bytes. Passed a b bytes known' []) → IfSome known' (λ bytes. (end : Option Fault) × IsPartTaken b.units.unit_place end bytes held') → IfSome known (λ bytes. BreaksIn a bytes held')
+pub breaks_in : (known known' held' : Option (List ℕ)) (a b : Decoding) → b.due ≡ [] → IfSome known (λ bytes. Passed a b bytes known' []) → IfSome known' (λ bytes. (end : Option Fault) × IsPartTaken b.units.unit_place end bytes held' × IsEndOfBytes end) → IfSome known (λ bytes. BreaksIn a bytes held')
 unfolding leaving accepted
 breaks_in None known' held' a b none so part = tt
 breaks_in (Some bytes) known' held' a b none p part =
-    let found : (end : Option Fault) × IsPartTaken b.units.unit_place end p.rest held' = subst (λ (k : Option (List ℕ)). IfSome k (λ rest. (end : Option Fault) × IsPartTaken b.units.unit_place end rest held')) p.holds part in
+    let found : (end : Option Fault) × IsPartTaken b.units.unit_place end p.rest held' × IsEndOfBytes end =
+    subst (λ (k : Option (List ℕ)). IfSome k (λ rest. (end : Option Fault) × IsPartTaken b.units.unit_place end rest held' × IsEndOfBytes end)) p.holds part in
     let t = found.1 in
     record {
       read = p.read ++ t.part;
@@ -143,6 +144,7 @@ breaks_in (Some bytes) known' held' a b none p part =
       units = p.units ++ [];
       end = found.0;
       cut = p.cut t.part [] found.0 t.no_unit;
+      bytes_end = found.2;
       accepts = p.accepts [];
       none_due = p.leaves [] ∙ append-nil b.due ∙ none;
     }

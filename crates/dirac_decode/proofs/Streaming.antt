@@ -173,6 +173,7 @@ broken_in bytes d given known held' taken taken' p breaks written =
       units = p.units ++ b.units;
       end = b.end;
       cut = p.cut b.read b.units b.end b.cut;
+      bytes_end = b.bytes_end;
       accepts = p.accepts b.units ∙ ap (λ l. p.units ++ l) b.accepts;
       delivered = subst (λ (ps : List Picture). Appends taken taken' (raws ps)) (sym all) written;
     }

@@ -5,7 +5,7 @@ use Rattle.dirac_common.specs.declared.faults.Fault.{Fault}
 use Rattle.dirac_common.specs.declared.picture.Picture.{Picture}
 use Rattle.dirac_units.specs.declared.unit.StreamEnd.{StreamEnd}
 use Rattle.dirac_units.specs.declared.unit.StreamEnd.TheVariants as stream_end
-use Rattle.dirac_units.specs.Cut.{IsCut, UnitText}
+use Rattle.dirac_units.specs.Cut.{IsCut, IsEndOfBytes, UnitText}
 use Rattle.dirac_units.specs.declared.unit_place.UnitPlace.{UnitPlace}
 use Rattle.dirac_units.specs.Progress.{CuttingProgress, TakesSome, cutting_begun}
 use Rattle.dirac_refs.specs.Delivery.{flushed}
@@ -117,8 +117,8 @@ pub record LeadsTo (old new : Decoding) (held held' : Option (List ℕ)) (given 
   pub alone : IfSome (prepend_known old.units.ahead held)
       (λ bytes. BringsAlone old new bytes (prepend_known new.units.ahead held') given)
 
--- of these bytes some were read and just the others are held; the whole units of those read are all accepted, and none
--- leaves while they are taken
+-- of these bytes some were read and just the others are held; the whole units of those read are all accepted, no parse
+-- info behind them is refused, and no picture leaves while they are taken
 pub record BreaksIn (old : Decoding) (bytes : List ℕ) (held' : Option (List ℕ)) : Type 0 where
   pub read : List ℕ
   pub rest : List ℕ
@@ -127,6 +127,7 @@ pub record BreaksIn (old : Decoding) (bytes : List ℕ) (held' : Option (List �
   pub units : List UnitText
   pub end : Option Fault
   pub cut : IsCut old.units.unit_place read units end
+  pub bytes_end : IsEndOfBytes end
   pub accepts : accepted old.state units ≡ units
   pub none_due : old.due ++ leaving old.state units ≡ []
 

@@ -11,7 +11,7 @@ use Rattle.dirac_units.specs.declared.info.ParseInfo.{ParseInfo}
 use Rattle.dirac_units.specs.declared.unit.Unit.{Unit}
 use Rattle.dirac_units.specs.declared.unit_place.UnitPlace.{UnitPlace}
 use Rattle.dirac_units.specs.Info.{span_of}
-use Rattle.dirac_units.specs.Cut.{UnitText, first_unit_place, after, front_of, IsCut, EachHasACut}
+use Rattle.dirac_units.specs.Cut.{UnitText, first_unit_place, after, front_of, IsCut, IsEndOfBytes, EachHasACut}
 use Rattle.dirac_units.specs.Progress.{GivesUnit, HoldsWhatFollows, IsFirstUnit, IsPartTaken, CuttingProgress, TakesSome}
 use Rattle.dirac_decode.proofs.Passed.{cut_unit}
 use Rattle.dirac_content.proofs.Passing.{text_of}
@@ -85,9 +85,9 @@ reads_on unit old new (Some bytes) held held' out mid out' so_far given line =
       subst (λ unit_place. HasRead unit_place (drop (span_of unit.info) so_far.0) bytes out out') (sym given.next) more,
     )
 
--- the end, a fault or a read that failed: the lines of all units that were read whole are written
-whole_read : (unit_place : UnitPlace) (end : Option Fault) (rest bytes : List ℕ) (held' out out' : Option (List ℕ)) → HasRead unit_place rest bytes out out' → IsPartTaken unit_place end rest held' → IsReadListed bytes held' out out'
-whole_read unit_place end rest bytes held' out out' h part = record {
+-- a read failed: the lines of all units that were read whole are written
+whole_read : (unit_place : UnitPlace) (end : Option Fault) (rest bytes : List ℕ) (held' out out' : Option (List ℕ)) → HasRead unit_place rest bytes out out' → IsPartTaken unit_place end rest held' → IsEndOfBytes end → IsReadListed bytes held' out out'
+whole_read unit_place end rest bytes held' out out' h part last = record {
   read = h.read ++ part.part;
   rest = part.rest;
   parts = h.parts ∙ ap (λ l. h.read ++ l) part.parts ∙ sym (append_assoc h.read part.part part.rest);
@@ -95,15 +95,36 @@ whole_read unit_place end rest bytes held' out out' h part = record {
   units = h.units ++ [];
   end = end;
   cut = h.cut part.part [] end part.no_unit;
+  bytes_end = last;
   listed = subst (Appends out out') (sym (append-nil h.text) ∙ sym (h.told [])) h.written;
 }
 
+-- the end or a fault: they are, too
+whole_front : (unit_place : UnitPlace) (end : Option Fault) (rest bytes : List ℕ) (held' out out' : Option (List ℕ)) → HasRead unit_place rest bytes out out' → IsPartTaken unit_place end rest held' → IsFrontListed bytes held' out out'
+whole_front unit_place end rest bytes held' out out' h part = record {
+  read = h.read ++ part.part;
+  rest = part.rest;
+  parts = h.parts ∙ ap (λ l. h.read ++ l) part.parts ∙ sym (append_assoc h.read part.part part.rest);
+  holds = part.holds;
+  units = h.units ++ [];
+  end = end;
+  cut = h.cut part.part [] end part.no_unit;
+  listed = (h.text, [], h.told [], h.written);
+}
+
+pub ends_listing : (old : CuttingProgress) (end : Option Fault) (first held held' out out' : Option (List ℕ)) → ReadsSoFar old first held out out'
+    → IfSome (prepend_known old.ahead held) (λ bytes. IsPartTaken old.unit_place end bytes held') → IfSome first (λ bytes. IsFrontListed bytes held' out out')
+ends_listing old end None held held' out out' so_far part = tt
+ends_listing old end (Some bytes) held held' out out' so_far part =
+    whole_front old.unit_place end so_far.0 bytes held' out out' so_far.2
+    (told_at (prepend_known old.ahead held) so_far.0 (λ rest. IsPartTaken old.unit_place end rest held') part so_far.1)
+
 pub breaks_listing : (old : CuttingProgress) (first held held' out out' : Option (List ℕ)) → ReadsSoFar old first held out out'
-    → IfSome (prepend_known old.ahead held) (λ bytes. (end : Option Fault) × IsPartTaken old.unit_place end bytes held') → IfSome first (λ bytes. IsReadListed bytes held' out out')
+    → IfSome (prepend_known old.ahead held) (λ bytes. (end : Option Fault) × IsPartTaken old.unit_place end bytes held' × IsEndOfBytes end) → IfSome first (λ bytes. IsReadListed bytes held' out out')
 breaks_listing old None held held' out out' so_far part = tt
 breaks_listing old (Some bytes) held held' out out' so_far part =
-    let told = told_at (prepend_known old.ahead held) so_far.0 (λ rest. (end : Option Fault) × IsPartTaken old.unit_place end rest held') part so_far.1 in
-    whole_read old.unit_place told.0 so_far.0 bytes held' out out' so_far.2 told.1
+    let told = told_at (prepend_known old.ahead held) so_far.0 (λ rest. (end : Option Fault) × IsPartTaken old.unit_place end rest held' × IsEndOfBytes end) part so_far.1 in
+    whole_read old.unit_place told.0 so_far.0 bytes held' out out' so_far.2 told.1 told.2
 
 front_of_whole : (bytes : List ℕ) (held' out out' : Option (List ℕ)) → IsReadListed bytes held' out out' → IsFrontListed bytes held' out out'
 front_of_whole bytes held' out out' w = record {
@@ -120,11 +141,6 @@ front_of_whole bytes held' out out' w = record {
 pub front_of_broken : (first held' out out' : Option (List ℕ)) → IfSome first (λ bytes. IsReadListed bytes held' out out') → IfSome first (λ bytes. IsFrontListed bytes held' out out')
 front_of_broken None held' out out' w = tt
 front_of_broken (Some bytes) held' out out' w = front_of_whole bytes held' out out' w
-
--- where the end or a fault stands
-pub with_end : (known held' : Option (List ℕ)) (unit_place : UnitPlace) (end : Option Fault) → IfSome known (λ bytes. IsPartTaken unit_place end bytes held') → IfSome known (λ bytes. (end : Option Fault) × IsPartTaken unit_place end bytes held')
-with_end None held' unit_place end part = tt
-with_end (Some bytes) held' unit_place end part = (end, part)
 
 left_behind : (bytes part : List ℕ) (held' : Option (List ℕ)) → Consumes (Some bytes) held' part → (rest : List ℕ) × (held' ≡ Some rest) × (bytes ≡ part ++ rest)
 left_behind bytes part None is = absurd is

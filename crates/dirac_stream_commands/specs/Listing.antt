@@ -3,7 +3,7 @@ use Rattle.std.specs.Prelude.{◌≡◌, ℕ, List, ◌++◌, Option, None, Some
 use Rattle.std.specs.Io.KnownBytes.{Appends}
 use Rattle.dirac_io.specs.Writing.{AppendsFront}
 use Rattle.dirac_common.specs.declared.faults.Fault.{Fault}
-use Rattle.dirac_units.specs.Cut.{UnitText, first_unit_place, IsCut}
+use Rattle.dirac_units.specs.Cut.{UnitText, first_unit_place, IsCut, IsEndOfBytes}
 use Rattle.dirac_command_line.specs.declared.ended.Ended.{Ended}
 use Rattle.dirac_command_line.specs.declared.ended.Ended.TheVariants as ended
 use Rattle.dirac_stream_commands.specs.Line.{lines}
@@ -35,7 +35,8 @@ pub record IsFrontListed (bytes : List ℕ) (held' out out' : Option (List ℕ))
   pub cut : IsCut first_unit_place read units end
   pub listed : AppendsFront out out' (lines first_unit_place units)
 
--- and it took them all
+-- of these bytes some were read and just the others are held, and a sink took the lines of all units in those read, of
+-- which no parse info is refused
 pub record IsReadListed (bytes : List ℕ) (held' out out' : Option (List ℕ)) : Type 0 where
   pub read : List ℕ
   pub rest : List ℕ
@@ -44,6 +45,7 @@ pub record IsReadListed (bytes : List ℕ) (held' out out' : Option (List ℕ)) 
   pub units : List UnitText
   pub end : Option Fault
   pub cut : IsCut first_unit_place read units end
+  pub bytes_end : IsEndOfBytes end
   pub listed : Appends out out' (lines first_unit_place units)
 
 -- the answers that `list` may give, of whatever source

@@ -1,4 +1,5 @@
 pub mod Fronts
 pub mod Cuts
+pub mod Ends
 pub mod Told
 pub mod Appended

@@ -1,19 +1,19 @@
 -- What was taken of a source is what it began with.
-use Rattle.std.proofs.Common.{◌≡◌, ℕ, ◌+◌, ◌-◌, ◌≤◌, ◌<◌, List, [], ◌++◌, length, take, drop, sym, ap, ◌∙◌, refl, arith, Option, None, Some, IfSome, Result, Ok, Err, append_assoc, append-nil, length-append, Bool, true, false, if◌then◌else◌, nat_lt, ◌==◌, subst}
+use Rattle.std.proofs.Common.{◌≡◌, ℕ, ◌+◌, ◌-◌, ◌≤◌, ◌<◌, List, [], ◌++◌, length, take, drop, sym, ap, ◌∙◌, refl, arith, Option, None, Some, IfSome, Result, Ok, Err, append_assoc, append-nil, length-append, Bool, true, false, if◌then◌else◌, nat_lt, ◌==◌, subst, inl, inr}
 use Rattle.std.proofs.lemmas.Bool.{le-ltb, ne_eqb, lt-ltb}
 use Rattle.std.proofs.lemmas.List.{length-take-le, take_at}
 use Rattle.std.proofs.Math.Seq.{drop-append_seam}
 use Rattle.std.proofs.KnownBytes.{Consumes-trans}
 use Rattle.std.specs.Prelude.{slice_range, ◌&&◌}
 use Rattle.std.specs.Io.KnownBytes.{Consumes, IsAtEnd}
-use Rattle.dirac_common.specs.declared.faults.Cause.TheVariants.{Truncated}
+use Rattle.dirac_common.specs.declared.faults.Cause.TheVariants.{MissingEnd, Truncated}
 use Rattle.dirac_common.specs.declared.faults.Fault.{Fault}
 use Rattle.dirac_common.specs.declared.faults.Refusal.{Refusal}
 use Rattle.dirac_units.specs.declared.info.ParseInfo.{ParseInfo}
 use Rattle.dirac_units.specs.declared.unit_place.UnitPlace.{UnitPlace}
 use Rattle.dirac_units.specs.declared.unit.Unit.{Unit}
 use Rattle.dirac_units.specs.Info.{info_read, span_of, fields_are_read}
-use Rattle.dirac_units.specs.Cut.{front_of, unit_front, fault_at}
+use Rattle.dirac_units.specs.Cut.{front_of, unit_front, fault_at, IsEndOfBytes}
 use Rattle.dirac_units.specs.Progress.{IsFirstUnit, IsPartTaken}
 use Rattle.dirac_units.specs.Taking.{CutsPayload, TakesInfo, TakesNone, TakesPayload}
 use Rattle.dirac_units.specs.declared.take.NoUnit.{NoUnit}
@@ -25,7 +25,7 @@ chosen_so true x y is = refl
 chosen_so false x y is = cc
 
 -- where 13 bytes stand at the front, they decide
-behind_header : (unit_place : UnitPlace) (all : List ℕ) → 13 ≤ length all → front_of unit_place all ≡ unit_front unit_place all (info_read (take 13 all))
+pub behind_header : (unit_place : UnitPlace) (all : List ℕ) → 13 ≤ length all → front_of unit_place all ≡ unit_front unit_place all (info_read (take 13 all))
 behind_header unit_place all long =
     not_chosen (length all == 0) _ _ (ne_eqb (length all) 0 (λ e. omega arith)) ∙ not_chosen (nat_lt (length all) 13) _ _ (le-ltb (length all) 13 long)
 
@@ -82,23 +82,31 @@ told_unit keep unit unit_place header more (Some xs) (Some ys) (Some zs) first l
       ap Some (sym (ap (drop span) whole ∙ ap (λ n. drop n ((header ++ more) ++ zs)) (sym long) ∙ drop-append_seam (header ++ more) zs)),
     )
 
--- where fewer bytes were taken than a parse info has, no unit stands in them
-no_unit_first : {A B : Type 0} (b : Bool) (x : B) (y : Result A B) → ((b ≡ false) → (e : B) × (y ≡ Err e)) → (e : B) × ((if b then Err x else y) ≡ Err e)
-no_unit_first true x y later = (x, refl)
-no_unit_first false x y later = later refl
+-- where fewer bytes were taken than a parse info has, no unit stands in them, and they end there
+no_unit_first : {A B : Type 0} (P : B → Type 0) (b : Bool) (x : B) (y : Result A B) → P x → ((b ≡ false) → (e : B) × (y ≡ Err e) × P e)
+    → (e : B) × ((if b then Err x else y) ≡ Err e) × P e
+no_unit_first P true x y now later = (x, refl, now)
+no_unit_first P false x y now later = later refl
 
-short_stands : (unit_place : UnitPlace) (bytes : List ℕ) → length bytes < 13 → (end : Option Fault) × (front_of unit_place bytes ≡ Err end)
+end_of_none : (closed : Bool) (fault : Fault) → fault.cause ≡ MissingEnd → IsEndOfBytes (if closed then None else Some fault)
+end_of_none true fault is = tt
+end_of_none false fault is = inl is
+
+short_stands : (unit_place : UnitPlace) (bytes : List ℕ) → length bytes < 13
+    → (end : Option Fault) × (front_of unit_place bytes ≡ Err end) × IsEndOfBytes end
 short_stands unit_place bytes short =
-    no_unit_first (length bytes == 0) _ _ (λ some. (Some (fault_at unit_place (length bytes) Truncated), chosen_so (nat_lt (length bytes) 13) _ _ (lt-ltb (length bytes) 13 short)))
+    no_unit_first IsEndOfBytes (length bytes == 0) _ _ (end_of_none unit_place.closed (fault_at unit_place 0 MissingEnd) refl)
+    (λ some. (Some (fault_at unit_place (length bytes) Truncated), chosen_so (nat_lt (length bytes) 13) _ _ (lt-ltb (length bytes) 13 short), inr refl))
 
 pub told_part : (unit_place : UnitPlace) (part : List ℕ) (held held' : Option (List ℕ)) (end : Option Fault) → Consumes held held' part → front_of unit_place part ≡ Err end → IfSome held (λ all. IsPartTaken unit_place end all held')
 told_part unit_place part None held' end taken is = tt
 told_part unit_place part (Some xs) None end taken is = absurd taken
 told_part unit_place part (Some xs) (Some ys) end taken is = record { part = part; rest = ys; no_unit = is; parts = taken; holds = refl }
 
-some_part : (unit_place : UnitPlace) (held held' : Option (List ℕ)) (end : Option Fault) → IfSome held (λ all. IsPartTaken unit_place end all held') → IfSome held (λ all. (e : Option Fault) × IsPartTaken unit_place e all held')
-some_part unit_place None held' end is = tt
-some_part unit_place (Some xs) held' end is = (end, is)
+some_part : (unit_place : UnitPlace) (held held' : Option (List ℕ)) (end : Option Fault) → IsEndOfBytes end → IfSome held (λ all. IsPartTaken unit_place end all held')
+    → IfSome held (λ all. (e : Option Fault) × IsPartTaken unit_place e all held' × IsEndOfBytes e)
+some_part unit_place None held' end last is = tt
+some_part unit_place (Some xs) held' end last is = (end, is, last)
 
 -- a parse info that is refused, as what was taken
 pub told_part_of_refusal : (unit_place : UnitPlace) (header : List ℕ) (held held' : Option (List ℕ)) (refusal : Refusal) → Consumes held held' header → length header ≡ 13
@@ -108,10 +116,11 @@ told_part_of_refusal unit_place header held held' refusal taken len read =
     (told_refusal unit_place header (Some header) (Some []) refusal (sym (append-nil header)) len read)
 
 -- a read failed in a parse info
-pub told_part_of_info : (unit_place : UnitPlace) (buf : List ℕ) (n : ℕ) (held held' : Option (List ℕ)) → n < 13 → length buf ≡ 13 → Consumes held held' (take n buf) → IfSome held (λ all. (e : Option Fault) × IsPartTaken unit_place e all held')
+pub told_part_of_info : (unit_place : UnitPlace) (buf : List ℕ) (n : ℕ) (held held' : Option (List ℕ)) → n < 13 → length buf ≡ 13 → Consumes held held' (take n buf)
+    → IfSome held (λ all. (e : Option Fault) × IsPartTaken unit_place e all held' × IsEndOfBytes e)
 told_part_of_info unit_place buf n held held' short size taken =
     let front = short_stands unit_place (take n buf) (omega (arith, length-take-le n buf (omega (arith, size, short)), short)) in
-    some_part unit_place held held' front.0 (told_part unit_place (take n buf) held held' front.0 taken front.1)
+    some_part unit_place held held' front.0 front.2 (told_part unit_place (take n buf) held held' front.0 taken front.1)
 
 -- what was taken of a unit whose payload is cut
 told_part_of_payload : (unit_place : UnitPlace) (info : ParseInfo) (header more : List ℕ) (held mid held' : Option (List ℕ)) → Consumes held mid header → length header ≡ 13
@@ -160,7 +169,7 @@ told_none (none.End end) info unit_place held mid held' taken cut = (
       (told_part_of_payload unit_place info taken.0 cut.0 held mid held' taken.3 taken.1 taken.2 cut.3 (omega (arith, cut.1))),
 )
 told_none none.ReadFault info unit_place held mid held' taken cut =
-    some_part unit_place held held' (Some (fault_at unit_place (13 + length cut.0) Truncated)) (told_part_of_payload unit_place info taken.0 cut.0 held mid held' taken.3 taken.1 taken.2 cut.2 (omega (arith, cut.1)))
+    some_part unit_place held held' (Some (fault_at unit_place (13 + length cut.0) Truncated)) (inr refl) (told_part_of_payload unit_place info taken.0 cut.0 held mid held' taken.3 taken.1 taken.2 cut.2 (omega (arith, cut.1)))
 told_none none.NoMemory info unit_place held mid held' taken cut = (taken.0 ++ cut.0, Consumes-trans held mid held' taken.0 cut.0 taken.3 cut.1)
 
 -- one more piece of a payload

@@ -1,6 +1,6 @@
 -- How bytes are cut into units, and the end or the fault that stands behind the last one.
-use Rattle.std.specs.Prelude.{◌≡◌, ℕ, ◌+◌, ◌==◌, nat_lt, false, if◌then◌else◌, List, [], ◌∷◌, length, take, drop}
-use Rattle.std.specs.Prelude.{slice_range, Option, None, Some, Result, Ok, Err}
+use Rattle.std.specs.Prelude.{◌≡◌, ℕ, ◌+◌, ◌≤◌, ◌==◌, nat_lt, false, if◌then◌else◌, List, [], ◌∷◌, length, take, drop}
+use Rattle.std.specs.Prelude.{slice_range, Option, None, Some, Result, Ok, Err, ◌⊎◌, ⊤}
 use Rattle.dirac_common.specs.declared.faults.Cause.{Cause}
 use Rattle.dirac_common.specs.declared.faults.Cause.TheVariants.{MissingEnd, Truncated}
 use Rattle.dirac_common.specs.declared.faults.Refusal.{Refusal}
@@ -27,6 +27,11 @@ after unit_place info =
 -- a fault of the unit that begins there, that many bytes behind its first
 abbrev pub fault_at : UnitPlace → ℕ → Cause → Fault
 fault_at unit_place at cause = record { unit = unit_place.index; at = unit_place.at + at; cause = cause }
+
+-- the bytes end there: between units or within one, and no parse info is refused
+abbrev pub IsEndOfBytes : Option Fault → Type 0
+IsEndOfBytes None = ⊤
+IsEndOfBytes (Some fault) = (fault.cause ≡ MissingEnd) ⊎ (fault.cause ≡ Truncated)
 
 -- a parse info was read, and the input may end in the payload; or it was refused
 abbrev pub unit_front : UnitPlace → List ℕ → Result ParseInfo Refusal → Result ParseInfo (Option Fault)
@@ -59,3 +64,9 @@ abbrev pub NoneHasTwoCuts : Type 0
 NoneHasTwoCuts =
     (unit_place : UnitPlace) (bytes : List ℕ) (units units' : List UnitText) (end end' : Option Fault)
     → IsCut unit_place bytes units end → IsCut unit_place bytes units' end' → (units ≡ units') × (end ≡ end')
+
+-- bytes at whose front a parse info is refused don't end there: the causes of refusals are others
+abbrev pub EndsRefuseNone : Type 0
+EndsRefuseNone =
+    (unit_place : UnitPlace) (bytes : List ℕ) (refusal : Refusal) (end : Option Fault) → 13 ≤ length bytes
+    → info_read (take 13 bytes) ≡ Err refusal → front_of unit_place bytes ≡ Err end → IsEndOfBytes end → ⊥

@@ -11,7 +11,7 @@ use Rattle.dirac_units.specs.declared.unit.Unit.{Unit}
 use Rattle.dirac_units.specs.declared.unit.UnitStep.{UnitStep}
 use Rattle.dirac_units.specs.declared.unit.UnitStep.TheVariants as step
 use Rattle.dirac_units.specs.Info.{IsLawful, fields_are_read, span_of}
-use Rattle.dirac_units.specs.Cut.{first_unit_place, after, front_of}
+use Rattle.dirac_units.specs.Cut.{first_unit_place, after, front_of, IsEndOfBytes}
 
 -- the bytes taken beyond the units given, where the next unit begins, and what later calls answer
 pub record CuttingProgress : Type 0 where
@@ -59,10 +59,11 @@ pub record IsPartTaken (unit_place : UnitPlace) (end : Option Fault) (bytes : Li
   pub parts : bytes ≡ part ++ rest
   pub holds : held' ≡ Some rest
 
--- so it is, with some end or fault, with the bytes ahead and those held
+-- so it is with the bytes ahead and those held, and what was taken ends there: no parse info in it is refused
 abbrev pub TakesPart : CuttingProgress → Option (List ℕ) → Option (List ℕ) → Type 0
 TakesPart old held held' =
-    IfSome (prepend_known old.ahead held) (λ bytes. (end : Option Fault) × IsPartTaken old.unit_place end bytes held')
+    IfSome (prepend_known old.ahead held)
+    (λ bytes. (end : Option Fault) × IsPartTaken old.unit_place end bytes held' × IsEndOfBytes end)
 
 -- some of the bytes ahead and those held were taken, and just the others are held
 abbrev pub TakesSome : CuttingProgress → Option (List ℕ) → Option (List ℕ) → Type 0

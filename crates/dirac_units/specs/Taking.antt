@@ -11,7 +11,7 @@ use Rattle.dirac_units.specs.declared.unit.Unit.{Unit}
 use Rattle.dirac_units.specs.declared.take.NoUnit.{NoUnit}
 use Rattle.dirac_units.specs.declared.take.NoUnit.TheVariants as none
 use Rattle.dirac_units.specs.Info.{IsLawful, info_read, span_of}
-use Rattle.dirac_units.specs.Cut.{fault_at, front_of}
+use Rattle.dirac_units.specs.Cut.{fault_at, front_of, IsEndOfBytes}
 use Rattle.dirac_units.specs.Progress.{IsFirstUnit, IsPartTaken}
 
 -- a parse info was taken
@@ -42,11 +42,12 @@ pub record TakesUnit (keep : Bool) (unit : Unit) (unit_place : UnitPlace) (held 
   pub told : IfSome held (λ bytes. IsFirstUnit keep unit unit_place bytes held')
 
 -- no whole unit begins there, but this end or fault does, also in what was taken; at the lawful end the source was
--- read to its end; where a read failed no whole unit was taken, and where memory was wanting some bytes were
+-- read to its end; where a read failed no whole unit was taken and no parse info refused, and where memory was wanting
+-- some bytes were taken
 abbrev pub TakesNone : NoUnit → UnitPlace → Option (List ℕ) → Option (List ℕ) → Type 0
 TakesNone (none.End end) unit_place held held' =
     IfSome held (λ bytes. front_of unit_place bytes ≡ Err end) × (end ≡ None → IsAtEnd held')
     × IfSome held (λ bytes. IsPartTaken unit_place end bytes held')
 TakesNone none.ReadFault unit_place held held' =
-    IfSome held (λ bytes. (end : Option Fault) × IsPartTaken unit_place end bytes held')
+    IfSome held (λ bytes. (end : Option Fault) × IsPartTaken unit_place end bytes held' × IsEndOfBytes end)
 TakesNone none.NoMemory unit_place held held' = (bytes : List ℕ) × Consumes held held' bytes

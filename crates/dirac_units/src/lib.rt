@@ -10,7 +10,7 @@ mod units;
 mod write;
 
 pub use info::{PARSE_INFO_LENGTH, ParseInfo, UnitKind, fields_are_read, kind_of, read_info};
-pub use law::bytes_have_one_cut;
+pub use law::{bytes_have_one_cut, ends_refuse_none};
 pub use unit::{Payload, StreamEnd, Unit, UnitStep};
 pub use unit_place::UnitPlace;
 pub use units::Units;

@@ -7,7 +7,7 @@ use Rattle.dirac_units.proofs.Cuts.{cut_by}
 use Rattle.dirac_stream_commands.proofs.Inside.{listed_inside}
 use Rattle.dirac_stream_commands.proofs.Listed.{ListsSoFar, begins, goes_on, ends_done, ends_faulty, stops_between}
 use Rattle.dirac_stream_commands.proofs.Listed.{stops_inside, at_read_fault, at_write_fault, at_no_memory}
-use Rattle.dirac_stream_commands.proofs.ListedRead.{ReadsSoFar, begins_reading, breaks_listing, front_of_broken, none_of_line, reads_on, stops_at_line, stops_reading, with_end}
+use Rattle.dirac_stream_commands.proofs.ListedRead.{ReadsSoFar, begins_reading, breaks_listing, ends_listing, front_of_broken, none_of_line, reads_on, stops_at_line, stops_reading}
 use Rattle.dirac_command_line.specs.declared.ended.Ended.TheVariants.{ReadFault, WriteFault, NoMemory}
 use Rattle.dirac_stream_commands.proofs.listing.list.Goals as goal
 
@@ -101,13 +101,11 @@ returns-in-NoMemory-put_all-clause-front_of_read g c =
 
 pub returns-in-End-clause-front_of_read : goal.returns-in-End-clause-front_of_read
 returns-in-End-clause-front_of_read g c =
-    front_of_broken _ _ _ _
-    (breaks_listing c.units.units _ _ _ _ _ c.units.invariant.5 (with_end _ _ c.units.units.unit_place _ (c.in-End.ensures.end c.units.invariant.1 refl).taken))
+    ends_listing c.units.units _ _ _ _ _ _ c.units.invariant.5 (c.in-End.ensures.end c.units.invariant.1 refl).taken
 
 pub returns-in-Fault-clause-front_of_read : goal.returns-in-Fault-clause-front_of_read
 returns-in-Fault-clause-front_of_read g c =
-    front_of_broken _ _ _ _
-    (breaks_listing c.units.units _ _ _ _ _ c.units.invariant.5 (with_end _ _ c.units.units.unit_place _ (c.in-Fault.ensures.fault c.in-Fault.fault c.units.invariant.1 refl).taken))
+    ends_listing c.units.units _ _ _ _ _ _ c.units.invariant.5 (c.in-Fault.ensures.fault c.in-Fault.fault c.units.invariant.1 refl).taken
 
 pub returns-in-ReadFault-clause-front_of_read : goal.returns-in-ReadFault-clause-front_of_read
 returns-in-ReadFault-clause-front_of_read g c =
