@@ -39,6 +39,7 @@ breaks_on (Some bytes) known' held' a b p breaks =
       units = p.units ++ q.units;
       end = q.end;
       cut = p.cut q.read q.units q.end q.cut;
+      bytes_end = q.bytes_end;
       accepts = p.accepts q.units ∙ ap (λ l. p.units ++ l) q.accepts;
       none_due = p.leaves q.units ∙ q.none_due;
     }
