@@ -19,7 +19,7 @@ use dirac_choice_laws::{
 };
 use dirac_command_line::Ended;
 use dirac_common::RowGate;
-use dirac_encode::Encoded;
+use dirac_encode_commands::ended;
 use dirac_io::{Sink, Source};
 use dirac_plan_laws::plans_can_be_coded;
 use dirac_rate::rate_stream;
@@ -77,49 +77,5 @@ pub fn rate<R: Threads + Sync, S: Source, K: Sink, N: Sink, G: RowGate>(
     inter_pictures_cost_least();
     coded_vectors_keep_inside();
     workers_change_nothing();
-    rated(rt, alloc, source, out, side, settings, budget, gate)
-}
-
-// Encodes raw pictures under a budget.
-fn rated<R: Threads + Sync, S: Source, K: Sink, N: Sink, G: RowGate>(
-    rt: &R,
-    alloc: Global,
-    source: &mut S,
-    out: &mut K,
-    side: &mut N,
-    settings: &Settings,
-    budget: u32,
-    gate: &G,
-) -> Ended
-    requires { IsAccepted settings.now }
-    ensures answer { IsEncodeAnswer result }
-    ensures rated { IfSome (S.held source.old) (λ bytes. IsRated settings.now budget bytes result
-        (K.taken out.old) (K.taken out.new) (N.taken side.old) (N.taken side.new)) }
-    ensures fits { (bytes : List ℕ) → AllFitOrNone budget settings.now [] (jobs_in settings.now bytes) }
-    ensures alike { (bytes : List ℕ) → settings.now.alike ≡ 1
-        → AreShownAlike (fit budget) settings.now [] (jobs_in settings.now bytes) }
-    ensures front_of_read { IfSome (S.held source.old) (λ bytes. WritesFrontOfRead (fit budget) settings.now bytes
-        (S.held source.new) (K.taken out.old) (K.taken out.new) (N.taken side.old) (N.taken side.new)) }
-    ensures due { result ≡ Ended.ReadFault → IfSome (S.held source.old) (λ bytes. WritesDue
-        (fit budget) settings.now bytes (S.held source.new)
-        (K.taken out.old) (K.taken out.new) (N.taken side.old) (N.taken side.new)) }
-    ensures whole { result ≡ Ended.Done → IsAtEnd (S.held source.new) }
-    ensures partial { (n : ℕ) → result ≡ Ended.PartialPicture n → (1 ≤ n) × IsAtEnd (S.held source.new) }
-    ensures read { result ≡ Ended.ReadFault → Rose (S.faults source.old) (S.faults source.new) }
-    ensures write { result ≡ Ended.WriteFault → Rose (K.faults out.old) (K.faults out.new) }
-    ensures side { result ≡ Ended.SideFault → Rose (N.faults side.old) (N.faults side.new) }
-    ensures reads { S.faults source.old ≤ S.faults source.new }
-    ensures writes { K.faults out.old ≤ K.faults out.new }
-    ensures sides { N.faults side.old ≤ N.faults side.new }
-{
-    match rate_stream(rt, alloc, source, out, side, settings, budget, gate) {
-        Encoded::Done => Ended::Done,
-        Encoded::PartialPicture(bytes) => Ended::PartialPicture(bytes),
-        Encoded::UnitTooLong(number) => Ended::UnitTooLong(number),
-        Encoded::TooManyPictures => Ended::TooManyPictures,
-        Encoded::ReadFault => Ended::ReadFault,
-        Encoded::WriteFault => Ended::WriteFault,
-        Encoded::SideFault => Ended::SideFault,
-        Encoded::NoMemory => Ended::NoMemory,
-    }
+    ended(rate_stream(rt, alloc, source, out, side, settings, budget, gate))
 }

@@ -1,3 +1,4 @@
 pub mod Delivered
+pub mod Endings
 mod Examples
 pub mod Making

@@ -13,12 +13,13 @@ ghost use Rattle.dirac_choice_laws.specs.Workers.{with_workers};
 ghost use Rattle.dirac_encode_commands.specs.Delivered.{SideGetsShown};
 ghost use Rattle.dirac_encode_commands.specs.Encoding.{EndsStream, IsEncoded, IsEncodeAnswer};
 
+use crate::ending::ended;
 use dirac_choice_laws::{
     coded_vectors_keep_inside, inter_pictures_cost_least, workers_change_nothing,
 };
 use dirac_command_line::Ended;
 use dirac_common::RowGate;
-use dirac_encode::{Encoded, encode_stream};
+use dirac_encode::encode_stream;
 use dirac_io::{Sink, Source};
 use dirac_plan_laws::plans_can_be_coded;
 use dirac_types::Settings;
@@ -70,46 +71,5 @@ pub fn encode<R: Threads + Sync, S: Source, K: Sink, N: Sink, G: RowGate>(
     inter_pictures_cost_least();
     coded_vectors_keep_inside();
     workers_change_nothing();
-    encoded(rt, alloc, source, out, side, settings, gate)
-}
-
-// Encodes raw pictures.
-fn encoded<R: Threads + Sync, S: Source, K: Sink, N: Sink, G: RowGate>(
-    rt: &R,
-    alloc: Global,
-    source: &mut S,
-    out: &mut K,
-    side: &mut N,
-    settings: &Settings,
-    gate: &G,
-) -> Ended
-    requires { IsAccepted settings.now }
-    ensures answer { IsEncodeAnswer result }
-    ensures encoded { IfSome (S.held source.old) (λ bytes. IsEncoded settings.now bytes result
-        (K.taken out.old) (K.taken out.new) (N.taken side.old) (N.taken side.new)) }
-    ensures alike { (bytes : List ℕ) → settings.now.alike ≡ 1
-        → AreShownAlike own_index settings.now [] (jobs_in settings.now bytes) }
-    ensures front_of_read { IfSome (S.held source.old) (λ bytes. WritesFrontOfRead own_index settings.now bytes
-        (S.held source.new) (K.taken out.old) (K.taken out.new) (N.taken side.old) (N.taken side.new)) }
-    ensures due { result ≡ Ended.ReadFault → IfSome (S.held source.old) (λ bytes. WritesDue own_index settings.now bytes
-        (S.held source.new) (K.taken out.old) (K.taken out.new) (N.taken side.old) (N.taken side.new)) }
-    ensures whole { result ≡ Ended.Done → IsAtEnd (S.held source.new) }
-    ensures partial { (n : ℕ) → result ≡ Ended.PartialPicture n → (1 ≤ n) × IsAtEnd (S.held source.new) }
-    ensures read { result ≡ Ended.ReadFault → Rose (S.faults source.old) (S.faults source.new) }
-    ensures write { result ≡ Ended.WriteFault → Rose (K.faults out.old) (K.faults out.new) }
-    ensures side { result ≡ Ended.SideFault → Rose (N.faults side.old) (N.faults side.new) }
-    ensures reads { S.faults source.old ≤ S.faults source.new }
-    ensures writes { K.faults out.old ≤ K.faults out.new }
-    ensures sides { N.faults side.old ≤ N.faults side.new }
-{
-    match encode_stream(rt, alloc, source, out, side, settings, gate) {
-        Encoded::Done => Ended::Done,
-        Encoded::PartialPicture(bytes) => Ended::PartialPicture(bytes),
-        Encoded::UnitTooLong(number) => Ended::UnitTooLong(number),
-        Encoded::TooManyPictures => Ended::TooManyPictures,
-        Encoded::ReadFault => Ended::ReadFault,
-        Encoded::WriteFault => Ended::WriteFault,
-        Encoded::SideFault => Ended::SideFault,
-        Encoded::NoMemory => Ended::NoMemory,
-    }
+    ended(encode_stream(rt, alloc, source, out, side, settings, gate))
 }

@@ -2,7 +2,9 @@
 #![tactic(auto)]
 
 mod encoded;
+mod ending;
 mod made;
 
 pub use encoded::encode;
+pub use ending::ended;
 pub use made::make;
