@@ -1,5 +1,5 @@
 -- The largest of some magnitudes, and bands whose largest magnitude is 0.
-use Rattle.std.proofs.Common.{◌≡◌, ℕ, zero, suc, ℤ, pos, negsuc, ◌+◌, ◌*◌, ◌<◌, ◌≤◌, ◌&&◌, Bool, true, false, List, [], ◌∷◌, ◌++◌, ◌-◌, ◌^◌, drop, take, length, length-append, replicate, slice_index_or, slice_set, unsigned_abs, nat_eq, max, arith, refl, ap, sym, ◌∙◌, inl, inr, subst, eq-eqb}
+use Rattle.std.proofs.Common.{◌≡◌, ℕ, zero, suc, ℤ, pos, negsuc, ◌+◌, ◌*◌, ◌<◌, ◌≤◌, true, false, List, [], ◌∷◌, ◌++◌, drop, take, length, replicate, slice_index_or, slice_set, unsigned_abs, nat_eq, max, arith, refl, ap, sym, ◌∙◌, inl, inr, subst, eq-eqb}
 use Rattle.std.specs.List.{All}
 use Rattle.std.proofs.lemmas.Bool.{and_parts, cases_Bool, cases_eq, ne_eqb}
 use Rattle.std.proofs.lemmas.List.{get_or-set_other, get_or-set_same, take-append-le, take_all}
@@ -106,3 +106,10 @@ held_inside r t x y largest same is column row =
     let down : y < r.size.height = subst (λ (u : Table). y < u.height) (sym same) row in
     let inside = rows_inside (y + 1) r.size.width r.size.height (length r.values.items) (omega (arith, down)) is.whole in
     (omega (arith, inside, across), mul-le y r.size.width 8192 8192 (omega (arith, down, is.down)) is.across.1, omega (arith, across, is.across))
+
+-- and so is a row of them
+pub held_row : (r : NarrowRows) (t : Table) (y largest : ℕ) → held_table (Narrow r) ≡ t → IsHeld (Narrow r) largest → y < t.height → (y * r.size.width + r.size.width ≤ length r.values.items) × (y * r.size.width ≤ 8192 * 8192) × (r.size.width ≤ 8192)
+held_row r t y largest same is row =
+    let down : y < r.size.height = subst (λ (u : Table). y < u.height) (sym same) row in
+    let inside = rows_inside (y + 1) r.size.width r.size.height (length r.values.items) (omega (arith, down)) is.whole in
+    (omega (arith, inside), mul-le y r.size.width 8192 8192 (omega (arith, down, is.down)) is.across.1, is.across.1)

@@ -1,4 +1,4 @@
-use Rattle.std.proofs.Common.{◌≡◌, ℕ, ℤ, ◌*◌, List, ap, ap₂, length, pos, replicate, sym, ◌∙◌}
+use Rattle.std.proofs.Common.{ℕ, ℤ, ◌*◌, List, ap, ap₂, length, pos, replicate, sym, ◌∙◌}
 use Rattle.std.proofs.lemmas.List.{length-replicate}
 use Rattle.dirac_common.specs.Table.{Table, with_values}
 use Rattle.dirac_coeffs.specs.Lent.{numbers_in}

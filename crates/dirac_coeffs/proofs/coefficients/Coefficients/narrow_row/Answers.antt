@@ -1,7 +1,9 @@
-use Rattle.std.proofs.Common.{◌≡◌, ℕ, pos, ◌-◌, ◌^◌, ◌≤◌, List, ℤ, unsigned_abs, arith, subst, sym}
+use Rattle.std.proofs.Common.{◌≡◌, ℕ, pos, ◌-◌, ◌^◌, ◌≤◌, List, ℤ, unsigned_abs, ap, arith, subst, sym, ◌∙◌}
 use Rattle.std.specs.List.{All}
 use Rattle.dirac_common.specs.Table.{Table}
-use Rattle.dirac_coeffs.specs.Held.{IsLargest}
+use Rattle.dirac_coeffs.specs.declared.coefficients.Held.{Held}
+use Rattle.dirac_coeffs.specs.Held.{IsHeld, IsLargest, held_table}
+use Rattle.dirac_coeffs.proofs.Largest.{held_row}
 use Rattle.dirac_coeffs.proofs.coefficients.Coefficients.narrow_row.Goals as goal
 
 pub returns-in-Wide-clause-zeros : goal.returns-in-Wide-clause-zeros
@@ -20,3 +22,17 @@ returns-in-Narrow-clause-no_list c = λ all.
     let some : 1 ≤ c.self.inside.largest = rw c.in-Narrow.is at c.self.invariant.form in
     let most : IsLargest c.self.inside.largest c.args.self.now.values = subst (λ (t : Table). IsLargest c.self.inside.largest t.values) c.self.view_is c.self.invariant.most in
     absurd (omega (arith, some, none_in_zeros c.self.inside.largest c.args.self.now.values most all))
+
+pub overflow_mul-start : goal.overflow_mul-start
+overflow_mul-start c =
+    let is = subst (λ (h : Held). IsHeld h c.self.inside.largest) c.in-Narrow.is c.self.invariant in
+    let same = sym (ap held_table c.in-Narrow.is) ∙ c.self.view_is in
+    let place = held_row c.in-Narrow.rows c.args.self.now c.args.y c.self.inside.largest same is c.requires.inside in
+    omega (arith, place)
+
+pub overflow_add-result : goal.overflow_add-result
+overflow_add-result c =
+    let is = subst (λ (h : Held). IsHeld h c.self.inside.largest) c.in-Narrow.is c.self.invariant in
+    let same = sym (ap held_table c.in-Narrow.is) ∙ c.self.view_is in
+    let place = held_row c.in-Narrow.rows c.args.self.now c.args.y c.self.inside.largest same is c.requires.inside in
+    omega (arith, place)
