@@ -83,27 +83,35 @@ told_unit keep unit unit_place header more (Some xs) (Some ys) (Some zs) first l
     )
 
 -- where fewer bytes were taken than a parse info has, no unit stands in them, and they end there
-no_unit_first : {A B : Type 0} (P : B → Type 0) (b : Bool) (x : B) (y : Result A B) → P x → ((b ≡ false) → (e : B) × (y ≡ Err e) × P e)
-    → (e : B) × ((if b then Err x else y) ≡ Err e) × P e
+no_unit_first : {A B : Type 0} (P : B → Type 0) (b : Bool) (x : B) (y : Result A B) → P x
+    → ((b ≡ false) → (e : B) × (y ≡ Err e) × P e) → (e : B) × ((if b then Err x else y) ≡ Err e) × P e
 no_unit_first P true x y now later = (x, refl, now)
 no_unit_first P false x y now later = later refl
 
-end_of_none : (closed : Bool) (fault : Fault) → fault.cause ≡ MissingEnd → IsEndOfBytes (if closed then None else Some fault)
+end_of_none : (closed : Bool) (fault : Fault) → fault.cause ≡ MissingEnd
+    → IsEndOfBytes (if closed then None else Some fault)
 end_of_none true fault is = tt
 end_of_none false fault is = inl is
 
 short_stands : (unit_place : UnitPlace) (bytes : List ℕ) → length bytes < 13
     → (end : Option Fault) × (front_of unit_place bytes ≡ Err end) × IsEndOfBytes end
 short_stands unit_place bytes short =
-    no_unit_first IsEndOfBytes (length bytes == 0) _ _ (end_of_none unit_place.closed (fault_at unit_place 0 MissingEnd) refl)
-    (λ some. (Some (fault_at unit_place (length bytes) Truncated), chosen_so (nat_lt (length bytes) 13) _ _ (lt-ltb (length bytes) 13 short), inr refl))
+    let header : nat_lt (length bytes) 13 ≡ true = lt-ltb (length bytes) 13 short in
+    no_unit_first IsEndOfBytes (length bytes == 0) _ _
+    (end_of_none unit_place.closed (fault_at unit_place 0 MissingEnd) refl)
+    (λ some. (
+      Some (fault_at unit_place (length bytes) Truncated),
+      chosen_so (nat_lt (length bytes) 13) _ _ header,
+      inr refl,
+    ))
 
 pub told_part : (unit_place : UnitPlace) (part : List ℕ) (held held' : Option (List ℕ)) (end : Option Fault) → Consumes held held' part → front_of unit_place part ≡ Err end → IfSome held (λ all. IsPartTaken unit_place end all held')
 told_part unit_place part None held' end taken is = tt
 told_part unit_place part (Some xs) None end taken is = absurd taken
 told_part unit_place part (Some xs) (Some ys) end taken is = record { part = part; rest = ys; no_unit = is; parts = taken; holds = refl }
 
-some_part : (unit_place : UnitPlace) (held held' : Option (List ℕ)) (end : Option Fault) → IsEndOfBytes end → IfSome held (λ all. IsPartTaken unit_place end all held')
+some_part : (unit_place : UnitPlace) (held held' : Option (List ℕ)) (end : Option Fault) → IsEndOfBytes end
+    → IfSome held (λ all. IsPartTaken unit_place end all held')
     → IfSome held (λ all. (e : Option Fault) × IsPartTaken unit_place e all held' × IsEndOfBytes e)
 some_part unit_place None held' end last is = tt
 some_part unit_place (Some xs) held' end last is = (end, is, last)

@@ -2,4 +2,4 @@ use Rattle.dirac_units.proofs.Ends.{refused_is_no_end}
 use Rattle.dirac_units.proofs.law.ends_refuse_none.Goals as goal
 
 pub returns : goal.returns
-returns c = λ unit_place bytes refusal end long read front last. refused_is_no_end unit_place bytes refusal end long read front last
+returns c = refused_is_no_end
