@@ -15,8 +15,8 @@ use Rattle.dirac_encode_laws.specs.declared.answers.Encoded.TheVariants as encod
 use Rattle.dirac_encode_laws.specs.Coding.{AreAtIndexZero, IndexRule, Made, coding_under, jobs_of, own_index}
 use Rattle.dirac_encode_laws.specs.Coding.{keyed_reconstructions}
 use Rattle.dirac_encode_laws.specs.Coding.{reconstructions, reconstructions_under, shown_of}
-use Rattle.dirac_encode_laws.specs.Stream.{header_before, last_length, picture_length, stream_from, stream_of, stream_under}
-use Rattle.dirac_encode_laws.specs.Stream.{stream_units, units_of, units_under}
+use Rattle.dirac_encode_laws.specs.Stream.{header_before, last_length, picture_length, stream_from, stream_of}
+use Rattle.dirac_encode_laws.specs.Stream.{stream_under, stream_units, units_of, units_under}
 use Rattle.dirac_plan_laws.specs.Order.{by_number}
 
 -- the unit of a picture, parse info and payload, is no longer than the settings allow

@@ -11,7 +11,8 @@ use Rattle.dirac_encode_laws.specs.declared.answers.Encoded.{Encoded}
 use Rattle.dirac_encode_laws.specs.declared.answers.Encoded.TheVariants as encoded
 use Rattle.dirac_encode_laws.specs.Coding.{Made, refs_after, waiting_of}
 use Rattle.dirac_encode_laws.specs.Encoding.{is_short}
-use Rattle.dirac_encode_laws.specs.Stream.{end_unit, header_before, header_length, header_unit, picture_length, picture_unit}
+use Rattle.dirac_encode_laws.specs.Stream.{end_unit, header_before, header_length, header_unit, picture_length}
+use Rattle.dirac_encode_laws.specs.Stream.{picture_unit}
 
 -- what is coded of a stream so far: how many pictures, the length of the last unit, the listed references, and the
 -- reconstructions that wait for delivery

@@ -21,8 +21,8 @@ pub record WritesFrontOfRead (f : IndexRule) (t : Settings) (bytes : List ℕ)
   pub written : WritesFront (encoding_under f t read) out out' side side'
 
 -- of these bytes some were read and just the others are held; whatever bytes follow those read, of the encoding of all
--- these just the units of the first pictures in coding order were written, and just the reconstructions that leave while
--- these are coded were delivered; of the whole pictures read no more are left than may wait to be coded
+-- these just the units of the first pictures in coding order were written, and just the reconstructions that leave
+-- while these are coded were delivered; of the whole pictures read no more are left than may wait to be coded
 pub record WritesDue (f : IndexRule) (t : Settings) (bytes : List ℕ) (held' out out' side side' : Option (List ℕ))
     : Type 0 where
   pub read : List ℕ

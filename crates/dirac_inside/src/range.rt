@@ -232,9 +232,9 @@ fn plane_range(
     }
 }
 
-/// The vectors in 2 to the power `precision` parts of a luma sample that lead from block `i` of row `j` to samples of the
-/// reference alone, and to half samples between them, in luma and in chroma. A block that has no sample in a plane asks
-/// nothing there.
+/// The vectors in 2 to the power `precision` parts of a luma sample that lead from block `i` of row `j` to samples of
+/// the reference alone, and to half samples between them, in luma and in chroma. A block that has no sample in a plane
+/// asks nothing there.
 pub fn inside_range(blocks: PictureBlocks, precision: u8, i: u32, j: u32) -> VectorRange
     requires blocks { AreBlocks blocks }
     requires precision { precision ≤ 3 }

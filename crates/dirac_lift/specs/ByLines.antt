@@ -1,7 +1,7 @@
 -- Lifting steps that are run line by line: in each turn each step changes one pair, and a step waits for the one before
 -- it, so that only a few lines are at work at once.
-use Rattle.std.specs.Prelude.{◌≡◌, ℕ, zero, suc, ℤ, pos, ◌+◌, ◌-◌, ◌/◌, ◌%◌, ◌<◌, ◌≤◌, ◌&&◌, nat_le, nat_lt, max, List, []}
-use Rattle.std.specs.Prelude.{◌∷◌, length, slice_index_or, slice_set, if◌then◌else◌}
+use Rattle.std.specs.Prelude.{◌≡◌, ℕ, zero, suc, ℤ, pos, ◌+◌, ◌-◌, ◌/◌, ◌%◌, ◌<◌, ◌≤◌, ◌&&◌, nat_le, nat_lt, max, List}
+use Rattle.std.specs.Prelude.{[], ◌∷◌, length, slice_index_or, slice_set, if◌then◌else◌}
 use Rattle.dirac_common.specs.Limits.{IsWavelet}
 use Rattle.dirac_lift.specs.Lifting.{Step, new_at, own}
 use Rattle.dirac_lift.specs.Wavelets.{analyse, steps_of, synth, taken_back}

@@ -1,5 +1,6 @@
 -- The four kinds of lines that steps are run on: when a step can be run, and what it makes of them.
-use Rattle.std.specs.Prelude.{◌≡◌, ℤ, ◌+◌, ◌-◌, ◌*◌, ◌%◌, ◌^◌, ◌≤◌, ◌==◌, List, length, if◌then◌else◌, max, unsigned_abs}
+use Rattle.std.specs.Prelude.{◌≡◌, ℤ, ◌+◌, ◌-◌, ◌*◌, ◌%◌, ◌^◌, ◌≤◌, ◌==◌, List, length, max}
+use Rattle.std.specs.Prelude.{if◌then◌else◌, unsigned_abs}
 use Rattle.std.specs.List.{All}
 use Rattle.dirac_common.specs.declared.limits.TheConstants.{LARGEST_TABLE_SIDE}
 use Rattle.dirac_lift.specs.declared.columns.Columns.{Columns}
@@ -85,5 +86,6 @@ pub record RingsLifted (r : Rings) (s : Step) (after : Rings) : Type 0 where
   pub turn : after.turn ≡ r.turn
   pub wait : after.wait ≡ r.wait + max r.lead (length s.taps - 1 - s.lead)
   pub lead : after.lead ≡ s.lead
-  pub changed : RowLifted s r.size.width r.size.half r.turn after.wait (ring_changed s r) (ring_taken s r) (ring_changed s after)
+  pub changed : RowLifted s r.size.width r.size.half r.turn after.wait (ring_changed s r) (ring_taken s r)
+      (ring_changed s after)
   pub kept : ring_taken s after ≡ ring_taken s r

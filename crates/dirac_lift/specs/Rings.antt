@@ -1,6 +1,6 @@
 -- Rows of a level that are at work: of its even rows, and of its odd ones, row n stands in slot n % 16 of a ring.
-use Rattle.std.specs.Prelude.{◌≡◌, ◌⊎◌, ℕ, ℤ, pos, false, ◌+◌, ◌-◌, ◌*◌, ◌%◌, ◌<◌, ◌≤◌, List, [], length, slice_index_or}
-use Rattle.std.specs.Prelude.{unsigned_abs}
+use Rattle.std.specs.Prelude.{◌≡◌, ◌⊎◌, ℕ, ℤ, pos, false, ◌+◌, ◌-◌, ◌*◌, ◌%◌, ◌<◌, ◌≤◌, List, [], length}
+use Rattle.std.specs.Prelude.{slice_index_or, unsigned_abs}
 use Rattle.std.specs.List.{All}
 use Rattle.dirac_common.specs.declared.limits.TheConstants.{LARGEST_NARROW}
 use Rattle.dirac_lift.specs.ByLines.{Timed, timed_behind, turns}

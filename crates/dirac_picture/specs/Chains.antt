@@ -1,5 +1,5 @@
--- The bands of a plane in the order of their orientations: the blocks of all are found first, and then the bands of each
--- orientation are read apart from those of the others, each with the one before it as its parent.
+-- The bands of a plane in the order of their orientations: the blocks of all are found first, and then the bands of
+-- each orientation are read apart from those of the others, each with the one before it as its parent.
 use Rattle.std.specs.Prelude.{◌≡◌, ℕ, zero, suc, ℤ, ◌+◌, ◌*◌, ◌<◌, List, [], ◌∷◌, ◌++◌, length, slice_get, Option}
 use Rattle.std.specs.Prelude.{Some, Ok, Err, IfSome}
 use Rattle.std.specs.List.{All}
@@ -65,8 +65,8 @@ abbrev pub values_before : List CodedBand → ℕ → List ℤ
 values_before bands zero = []
 values_before bands (suc k) = values_among (slice_get bands k)
 
--- bands of one orientation of a plane of this size, from band `first` on each third one: each is what its block reads to
--- behind the one before it
+-- bands of one orientation of a plane of this size, from band `first` on each third one: each is what its block reads
+-- to behind the one before it
 abbrev pub IsChain : Transform → ℕ → ℕ → List (Option Found) → ℕ → List CodedBand → Type 0
 IsChain t width height sites first bands =
     (k : ℕ) (x : Option Found) (b : CodedBand)

@@ -87,8 +87,8 @@ fn length_of(transform: &Transform, first: u32) -> u32
     }
 }
 
-/// Reads the bands of one orientation of a plane whose blocks were found: of LL, HL, LH or HH where `first` is 0, 1, 2 or
-/// 3. None where one of them is refused. A band's parent is of its own orientation, so the four may be read side by
+/// Reads the bands of one orientation of a plane whose blocks were found: of LL, HL, LH or HH where `first` is 0, 1, 2
+/// or 3. None where one of them is refused. A band's parent is of its own orientation, so the four may be read side by
 /// side.
 pub fn read_chain(
     alloc: Global,

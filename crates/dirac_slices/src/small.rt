@@ -1,10 +1,10 @@
 //! How many threads a picture is worth; no answer depends on it.
 //!
 //! Each map of rows starts threads of its own, one fewer than it has workers, and so does the writing of samples. A
-//! picture has two maps: one that reads its subbands, and one that makes what its samples are made from, which has at
-//! most three workers for an intra picture. So with four workers nine threads are started for an inter picture, eight
-//! for an intra picture. A small picture isn't read by a map, and has two workers at most: two threads are started for
-//! it where it is an inter picture, one where it is an intra picture, whose planes are the rows of one map.
+//! picture has two maps: one that reads its subbands, and one that makes what its samples are made from. So with four
+//! workers nine threads are started for a picture. A small picture isn't read by a map, and has two workers at most:
+//! two threads are started for it where it is an inter picture, one where it is an intra picture, whose planes are the
+//! rows of one map.
 ghost use Rattle.std.specs.Prelude.{◌≤◌};
 
 use dirac_sequence_header::Sequence;
