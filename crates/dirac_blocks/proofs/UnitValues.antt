@@ -22,7 +22,7 @@ use Rattle.dirac_vectors.specs.Predictions.{mode_of, vector_of}
 use Rattle.dirac_blocks.specs.declared.parts.Axis.{Axis}
 use Rattle.dirac_blocks.specs.declared.parts.Axis.TheVariants as axes
 use Rattle.dirac_blocks.specs.Decisions.{differ, less_prediction, predicted, ref1_at, vector_part}
-use Rattle.dirac_blocks.specs.Parts.{component_list, component_of, part_at, vector_at}
+use Rattle.dirac_blocks.specs.Parts.{component_list, component_along, part_at, vector_at}
 use Rattle.dirac_blocks.specs.Grammar.{block_using, coded_into, component_coded, is_dc, has_16_bits, mode_coded, second_use, unit_coded, uses, value_coded, with_component, with_dc}
 use Rattle.dirac_block_table.specs.Tables.{BlockTable, IsBlock, block_at}
 
@@ -60,11 +60,11 @@ component_lawful refs axes.Down references.Second b v h is short = grind arith
 
 -- one rule for both components of a vector
 pub component_is : (a : Axis) (k : Reference) (t : BlockTable) (i j : ℕ) → unit_coded (component_list a k) t i j
-    ≡ coded_into (uses k (block_at t i j)) (block_at t i j) (with_component a k) (component_coded (component_of a (predicted vector_of (vector_at k t) i j)))
+    ≡ coded_into (uses k (block_at t i j)) (block_at t i j) (with_component a k) (component_coded (component_along a (predicted vector_of (vector_at k t) i j)))
 component_is axes.Across k t i j = refl
 component_is axes.Down k t i j = refl
 
-pub component_told : (a : Axis) (k : Reference) (t : BlockTable) (i j : ℕ) → part_at (component_list a k) t i j ≡ vector_part (vector_at k t) (component_of a) i j
+pub component_told : (a : Axis) (k : Reference) (t : BlockTable) (i j : ℕ) → part_at (component_list a k) t i j ≡ vector_part (vector_at k t) (component_along a) i j
 component_told axes.Across k t i j = refl
 component_told axes.Down k t i j = refl
 

@@ -39,9 +39,9 @@ abbrev pub list_there : Option ListKind → BlockTable → List (List Decision)
 list_there list t = if is_there list t.refs then list_decisions list t ∷ [] else []
 
 -- a component of a vector
-abbrev pub component_of : Axis → Vector → ℤ
-component_of axis.Across v = v.x
-component_of axis.Down v = v.y
+abbrev pub component_along : Axis → Vector → ℤ
+component_along axis.Across v = v.x
+component_along axis.Down v = v.y
 
 -- the list that tells this component of the vectors of a reference
 abbrev pub component_list : Axis → Reference → ListKind

@@ -1,7 +1,7 @@
 ghost use Rattle.std.specs.Prelude.{◌≡◌};
 ghost use Rattle.dirac_vectors.specs.Neighbours.{IsShort};
 ghost use Rattle.dirac_vectors.specs.Predictions.{IsShortVector};
-ghost use Rattle.dirac_blocks.specs.Parts.{component_of, is_there};
+ghost use Rattle.dirac_blocks.specs.Parts.{component_along, is_there};
 
 use dirac_block_table::Reference;
 use dirac_common::{Component, Vector};
@@ -49,7 +49,7 @@ pub fn is_there(list: Option<ListKind>, refs: u8) -> bool
 /// A component of a vector.
 pub fn component(vector: Vector, axis: Axis) -> i32
     requires { IsShortVector vector }
-    ensures value { result ≡ component_of axis vector }
+    ensures value { result ≡ component_along axis vector }
     ensures short { IsShort result }
 {
     match axis {

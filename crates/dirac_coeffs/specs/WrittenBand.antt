@@ -11,7 +11,7 @@ use Rattle.dirac_coeffs.specs.Lent.{numbers_in}
 use Rattle.dirac_coeffs.specs.Written.{block_of, marks_of}
 
 -- sizes that a band may have, as many values and indices as these say, and magnitudes that can be spelt
-pub record IsWritable (b : WrittenBand) : Type 0 where
+pub record IsBandToWrite (b : WrittenBand) : Type 0 where
   pub layout : IsBandLayout b.layout
   pub len : length (numbers_in b.values) ≡ b.layout.width * b.layout.height
   pub magnitudes_bounded : AreSmall (numbers_in b.values)
@@ -53,5 +53,5 @@ abbrev pub rows_of_blocks : WrittenBand → ℕ → List Decision
 rows_of_blocks b n = bands_part b.layout (numbers_in b.parent) (numbers_in b.values) (marks_in b) n
 
 -- its block
-abbrev pub block_in : WrittenBand → List ℕ
-block_in b = block_of b.layout (numbers_in b.parent) b.index (numbers_in b.values) b.indices.now
+abbrev pub block_of_band : WrittenBand → List ℕ
+block_of_band b = block_of b.layout (numbers_in b.parent) b.index (numbers_in b.values) b.indices.now

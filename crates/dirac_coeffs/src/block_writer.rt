@@ -4,7 +4,7 @@ ghost use Rattle.dirac_coeffs.specs.Carried.{AreLawful};
 ghost use Rattle.dirac_coeffs.specs.Layouts.{IsBandLayout};
 ghost use Rattle.dirac_coeffs.specs.Lent.{numbers_in};
 ghost use Rattle.dirac_coeffs.specs.Written.{AreIndicesOf, block_of};
-ghost use Rattle.dirac_coeffs.specs.WrittenBand.{block_in};
+ghost use Rattle.dirac_coeffs.specs.WrittenBand.{block_of_band};
 
 use crate::codeblock_writer::write_all;
 use crate::indices::Indices;
@@ -19,7 +19,7 @@ pub fn write_below(alloc: Global, band: WrittenBand<'_>) -> Result<Vec<u8>, NoMe
     requires layout { IsBandLayout band.layout }
     requires lawful { AreLawful band.layout band.index (numbers_in band.values) band.indices.now }
     requires indices { AreIndicesOf band.layout band.index (numbers_in band.values) band.indices.now }
-    ensures exact { IfOk result (λ block. block.items ≡ block_in band.entry) }
+    ensures exact { IfOk result (λ block. block.items ≡ block_of_band band.entry) }
     ensures read_back { IfOk result (λ block. band_read band.entry.layout (numbers_in band.entry.parent)
         band.entry.index block.items ≡ Ok (band_content (numbers_in band.entry.values) band.entry.indices.now)) }
 {

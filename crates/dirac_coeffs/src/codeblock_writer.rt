@@ -1,6 +1,6 @@
 ghost use Rattle.std.specs.Prelude.{◌≡◌, ◌<◌, OnOk};
 ghost use Rattle.dirac_arith.specs.Interval.{narrowed_by};
-ghost use Rattle.dirac_coeffs.specs.WrittenBand.{IsWritable, blocks_of_row, rows_of_blocks, unskipped_block};
+ghost use Rattle.dirac_coeffs.specs.WrittenBand.{IsBandToWrite, blocks_of_row, rows_of_blocks, unskipped_block};
 ghost use Rattle.dirac_coeffs.specs.WrittenBand.{whole_block};
 
 use crate::layout::WrittenBand;
@@ -17,7 +17,7 @@ fn write_unskipped(
     band: WrittenBand<'_>,
     codeblock: Codeblock,
 ) -> Result<(), NoMemory>
-    requires writable { IsWritable band }
+    requires writable { IsBandToWrite band }
     requires row { codeblock.row < band.layout.down }
     requires column { codeblock.column < band.layout.across }
     ensures { OnOk result (encoder.new ≡ narrowed_by encoder.old
@@ -35,7 +35,7 @@ fn write_codeblock(
     band: WrittenBand<'_>,
     codeblock: Codeblock,
 ) -> Result<(), NoMemory>
-    requires writable { IsWritable band }
+    requires writable { IsBandToWrite band }
     requires row { codeblock.row < band.layout.down }
     requires column { codeblock.column < band.layout.across }
     ensures { OnOk result (encoder.new ≡ narrowed_by encoder.old
@@ -55,7 +55,7 @@ fn write_codeblock(
 
 /// Writes row `cy` of codeblocks.
 fn write_codeblocks(encoder: &mut Encoder, band: WrittenBand<'_>, cy: u32) -> Result<(), NoMemory>
-    requires writable { IsWritable band }
+    requires writable { IsBandToWrite band }
     requires row { cy < band.layout.down }
     ensures { OnOk result (encoder.new ≡ narrowed_by encoder.old
         (blocks_of_row band.entry cy band.entry.layout.across)) }
@@ -75,7 +75,7 @@ fn write_codeblocks(encoder: &mut Encoder, band: WrittenBand<'_>, cy: u32) -> Re
 
 /// Writes all codeblocks of a band.
 pub fn write_all(encoder: &mut Encoder, band: WrittenBand<'_>) -> Result<(), NoMemory>
-    requires { IsWritable band }
+    requires { IsBandToWrite band }
     ensures { OnOk result (encoder.new ≡ narrowed_by encoder.old
         (rows_of_blocks band.entry band.entry.layout.down)) }
 {

@@ -4,7 +4,7 @@ ghost use Rattle.dirac_coeffs.specs.Carried.{AreSmall};
 ghost use Rattle.dirac_coeffs.specs.Contexts.{value_in_corner, value_left_of, value_spelling};
 ghost use Rattle.dirac_coeffs.specs.Decisions.{frame_of, value_part, row_part};
 ghost use Rattle.dirac_coeffs.specs.Lent.{numbers_in};
-ghost use Rattle.dirac_coeffs.specs.WrittenBand.{IsWritable, frame_in, values_of_block};
+ghost use Rattle.dirac_coeffs.specs.WrittenBand.{IsBandToWrite, frame_in, values_of_block};
 
 use crate::contexts;
 use crate::layout::{BandLayout, WrittenBand};
@@ -167,7 +167,7 @@ fn write_row(
     y: usize,
     columns: Span,
 ) -> Result<(), NoMemory>
-    requires writable { IsWritable band }
+    requires writable { IsBandToWrite band }
     requires columns { columns.start + columns.length ≤ band.layout.width }
     requires row { y < band.layout.height }
     ensures { OnOk result (encoder.new ≡ narrowed_by encoder.old
@@ -194,7 +194,7 @@ pub fn write_block_values(
     band: WrittenBand<'_>,
     codeblock: Codeblock,
 ) -> Result<(), NoMemory>
-    requires writable { IsWritable band }
+    requires writable { IsBandToWrite band }
     requires row { codeblock.row < band.layout.down }
     requires column { codeblock.column < band.layout.across }
     ensures { OnOk result (encoder.new ≡ narrowed_by encoder.old

@@ -1,7 +1,7 @@
 ghost use Rattle.std.specs.Prelude.{◌≡◌, ℕ, ◌+◌, ◌*◌, ◌<◌, ◌≤◌, pos, true, false, length};
 ghost use Rattle.dirac_coeffs.specs.Contexts.{band_value};
 ghost use Rattle.dirac_coeffs.specs.Lent.{numbers_in};
-ghost use Rattle.dirac_coeffs.specs.WrittenBand.{IsWritable, marks_in};
+ghost use Rattle.dirac_coeffs.specs.WrittenBand.{IsBandToWrite, marks_in};
 
 use crate::contexts::is_zero_value;
 use crate::layout::WrittenBand;
@@ -49,7 +49,7 @@ fn are_zero_rows(values: Numbers<'_>, width: usize, rows: Span, columns: Span) -
 
 /// Whether a codeblock has zeros alone, or no values.
 pub fn has_zeros_alone(band: WrittenBand<'_>, codeblock: Codeblock) -> bool
-    requires writable { IsWritable band }
+    requires writable { IsBandToWrite band }
     requires row { codeblock.row < band.layout.down }
     requires column { codeblock.column < band.layout.across }
     ensures { result ≡ (marks_in band.entry codeblock.row codeblock.column).skipped }

@@ -1,5 +1,5 @@
 pub mod Codes
-pub use Rattle.dirac_parameters.specs.Counts
+pub mod Counts
 pub mod Header
 pub mod Prediction
 pub mod Transform

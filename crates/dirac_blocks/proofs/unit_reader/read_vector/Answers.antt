@@ -7,7 +7,7 @@ use Rattle.dirac_vectors.specs.Predictions.{vector_of}
 use Rattle.dirac_block_table.specs.declared.block.Block.{Block}
 use Rattle.dirac_blocks.specs.Decisions.{predicted}
 use Rattle.dirac_blocks.specs.Grammar.{component_coded, uses, with_component}
-use Rattle.dirac_blocks.specs.Parts.{component_of, vector_at}
+use Rattle.dirac_blocks.specs.Parts.{component_along, vector_at}
 use Rattle.dirac_block_table.specs.Tables.{IsBlock, block_at}
 use Rattle.dirac_blocks.proofs.UnitValues.{component_is, component_lawful, into_found, into_none, into_refused}
 use Rattle.dirac_blocks.proofs.unit_reader.read_vector.Goals as goal
@@ -21,7 +21,7 @@ returns-in-Ok-clause-value c =
     let v = c.in-Ok.value in
     let old = c.args.decoder.now in
     let new = c.read_value.new.decoder in
-    let p = component_of a (predicted vector_of (vector_at k t) c.args.i c.args.j) in
+    let p = component_along a (predicted vector_of (vector_at k t) c.args.i c.args.j) in
     let used : uses k b ≡ true = search rules in
     let stored : to_z w32 (of_z w32 v) ≡ v = search rules in
     let given : to_z w32 (of_z w32 c.component-prediction.result) ≡ p = search rules in
@@ -39,7 +39,7 @@ returns-in-Err-clause-value c =
     let k = c.args.reference in
     let b = block_at t c.args.i c.args.j in
     let old = c.args.decoder.now in
-    let p = component_of a (predicted vector_of (vector_at k t) c.args.i c.args.j) in
+    let p = component_along a (predicted vector_of (vector_at k t) c.args.i c.args.j) in
     let used : uses k b ≡ true = search rules in
     let given : to_z w32 (of_z w32 c.component-prediction.result) ≡ p = search rules in
     ap (λ (s : Coded Block). read_coded s old) (component_is a k t c.args.i c.args.j)
@@ -65,7 +65,7 @@ returns-then-not-has_reference-clause-value c =
     let k = c.args.reference in
     let b = block_at t c.args.i c.args.j in
     let old = c.args.decoder.now in
-    let p = component_of a (predicted vector_of (vector_at k t) c.args.i c.args.j) in
+    let p = component_along a (predicted vector_of (vector_at k t) c.args.i c.args.j) in
     let unused : uses k b ≡ false = search rules in
     ap (λ (s : Coded Block). read_coded s old) (component_is a k t c.args.i c.args.j)
     ∙ into_none (uses k b) b (with_component a k) (component_coded p) old unused

@@ -6,7 +6,7 @@ use Rattle.dirac_arith.specs.Interval.{Decision, narrowed_by}
 use Rattle.dirac_arith.specs.Spelling.{signed_spelling}
 use Rattle.dirac_vectors.specs.Predictions.{vector_of}
 use Rattle.dirac_blocks.specs.Decisions.{predicted}
-use Rattle.dirac_blocks.specs.Parts.{component_of, vector_at}
+use Rattle.dirac_blocks.specs.Parts.{component_along, vector_at}
 use Rattle.dirac_blocks.proofs.UnitValues.{component_told, none_told, some_told}
 use Rattle.dirac_blocks.proofs.unit_writer.write_vector.Goals as goal
 
@@ -15,9 +15,9 @@ returns-in-None c =
     let t = c.args.table.now in
     let a = c.args.axis in
     let k = c.args.reference in
-    let p = component_of a (predicted vector_of (vector_at k t) c.args.i c.args.j) in
+    let p = component_along a (predicted vector_of (vector_at k t) c.args.i c.args.j) in
     let none : vector_at k t c.args.i c.args.j ≡ None = sym c.vector.ensures.value ∙ c.in-None.is in
-    none_told (27 ∷ 28 ∷ 29 ∷ 30 ∷ 31 ∷ []) 32 33 p _ c.args.encoder.now (ap (λ (o : Option Vector). option_map (component_of a) o) none)
+    none_told (27 ∷ 28 ∷ 29 ∷ 30 ∷ 31 ∷ []) 32 33 p _ c.args.encoder.now (ap (λ (o : Option Vector). option_map (component_along a) o) none)
     ∙ ap (λ (ds : List Decision). narrowed_by c.args.encoder.now ds) (sym (component_told a k t c.args.i c.args.j))
 
 pub returns-in-Some : goal.returns-in-Some
@@ -25,11 +25,11 @@ returns-in-Some c =
     let t = c.args.table.now in
     let a = c.args.axis in
     let k = c.args.reference in
-    let v = component_of a c.in-Some.v in
-    let p = component_of a (predicted vector_of (vector_at k t) c.args.i c.args.j) in
+    let v = component_along a c.in-Some.v in
+    let p = component_along a (predicted vector_of (vector_at k t) c.args.i c.args.j) in
     let given : to_z w32 (of_z w32 c.component-prediction.result) ≡ p = search rules in
     let value : to_z w32 (of_z w32 c.component.result) ≡ v = search rules in
     let some : vector_at k t c.args.i c.args.j ≡ Some c.in-Some.v = sym c.vector.ensures.value ∙ c.in-Some.is in
-    let told = some_told (27 ∷ 28 ∷ 29 ∷ 30 ∷ 31 ∷ []) 32 33 p v _ (ap (λ (o : Option Vector). option_map (component_of a) o) some) in
+    let told = some_told (27 ∷ 28 ∷ 29 ∷ 30 ∷ 31 ∷ []) 32 33 p v _ (ap (λ (o : Option Vector). option_map (component_along a) o) some) in
     let written = ap₂ (λ (w q : ℤ). signed_spelling (27 ∷ 28 ∷ 29 ∷ 30 ∷ 31 ∷ []) 32 33 (w -ℤ q)) value given ∙ told ∙ sym (component_told a k t c.args.i c.args.j) in
     on_ok_weaker c.write_less.result (λ e. e ∙ ap (λ (ds : List Decision). narrowed_by c.args.encoder.now ds) written) c.write_less.ensures
