@@ -132,12 +132,12 @@ fn row_place(decoder: &Decoder<'_>, values: &[i32], width: usize, x: usize, y: u
     ensures left { result.left.value ≡ value_left_of width values.now x y }
     ensures corner { result.corner ≡ value_in_corner width values.now x y }
 {
+    let value = contexts::left_value(Numbers::Narrow(values), width, x, y);
+    let corner = contexts::corner_value(Numbers::Narrow(values), width, x, y);
+    let registers = decoder.registers();
     RowPlace {
-        left: ValueRead {
-            value: contexts::left_value(Numbers::Narrow(values), width, x, y),
-            registers: decoder.registers(),
-        },
-        corner: contexts::corner_value(Numbers::Narrow(values), width, x, y),
+        left: ValueRead { value, registers },
+        corner,
     }
 }
 
