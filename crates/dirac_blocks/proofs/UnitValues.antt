@@ -53,10 +53,14 @@ into_refused true b put value old e is shut = then_is_read value (λ w. done (pu
 into_refused false b put value old e is shut = absurd (both_ways false refl is)
 
 pub component_lawful : (refs : ℕ) (a : Axis) (k : Reference) (b : Block) (v : ℤ) → IsBlock refs b → uses k b ≡ true → IsShort v → IsBlock refs (with_component a k b v)
-component_lawful refs axes.Across references.First b v h is short = grind arith
-component_lawful refs axes.Across references.Second b v h is short = grind arith
-component_lawful refs axes.Down references.First b v h is short = grind arith
-component_lawful refs axes.Down references.Second b v h is short = grind arith
+component_lawful refs axes.Across references.First b v h is short =
+    record { second = h.second; v1 = record { x = short; y = h.v1.y }; v2 = h.v2; dc_y = h.dc_y; dc_u = h.dc_u; dc_v = h.dc_v; no_v1 = λ e. absurd (both_ways b.ref1 e is); no_v2 = h.no_v2; no_dc = h.no_dc }
+component_lawful refs axes.Across references.Second b v h is short =
+    record { second = h.second; v1 = h.v1; v2 = record { x = short; y = h.v2.y }; dc_y = h.dc_y; dc_u = h.dc_u; dc_v = h.dc_v; no_v1 = h.no_v1; no_v2 = λ e. absurd (both_ways b.ref2 e is); no_dc = h.no_dc }
+component_lawful refs axes.Down references.First b v h is short =
+    record { second = h.second; v1 = record { x = h.v1.x; y = short }; v2 = h.v2; dc_y = h.dc_y; dc_u = h.dc_u; dc_v = h.dc_v; no_v1 = λ e. absurd (both_ways b.ref1 e is); no_v2 = h.no_v2; no_dc = h.no_dc }
+component_lawful refs axes.Down references.Second b v h is short =
+    record { second = h.second; v1 = h.v1; v2 = record { x = h.v2.x; y = short }; dc_y = h.dc_y; dc_u = h.dc_u; dc_v = h.dc_v; no_v1 = h.no_v1; no_v2 = λ e. absurd (both_ways b.ref2 e is); no_dc = h.no_dc }
 
 -- one rule for both components of a vector
 pub component_is : (a : Axis) (k : Reference) (t : BlockTable) (i j : ℕ) → unit_coded (component_list a k) t i j
@@ -69,9 +73,12 @@ component_told axes.Across k t i j = refl
 component_told axes.Down k t i j = refl
 
 pub dc_lawful : (refs : ℕ) (c : Component) (b : Block) (v : ℤ) → IsBlock refs b → (b.ref1 || b.ref2) ≡ false → IsShort v → IsBlock refs (with_dc c b v)
-dc_lawful refs components.Y b v h is short = grind arith
-dc_lawful refs components.U b v h is short = grind arith
-dc_lawful refs components.V b v h is short = grind arith
+dc_lawful refs components.Y b v h is short =
+    record { second = h.second; v1 = h.v1; v2 = h.v2; dc_y = short; dc_u = h.dc_u; dc_v = h.dc_v; no_v1 = h.no_v1; no_v2 = h.no_v2; no_dc = λ e. absurd (both_ways (b.ref1 || b.ref2) is e) }
+dc_lawful refs components.U b v h is short =
+    record { second = h.second; v1 = h.v1; v2 = h.v2; dc_y = h.dc_y; dc_u = short; dc_v = h.dc_v; no_v1 = h.no_v1; no_v2 = h.no_v2; no_dc = λ e. absurd (both_ways (b.ref1 || b.ref2) is e) }
+dc_lawful refs components.V b v h is short =
+    record { second = h.second; v1 = h.v1; v2 = h.v2; dc_y = h.dc_y; dc_u = h.dc_u; dc_v = short; no_v1 = h.no_v1; no_v2 = h.no_v2; no_dc = λ e. absurd (both_ways (b.ref1 || b.ref2) is e) }
 
 pub is_dc_from : (b : Block) → (b.ref1 || b.ref2) ≡ false → is_dc b ≡ true
 is_dc_from b e = ap not e

@@ -1,7 +1,7 @@
 -- Lists that tell a value of each unit: components of vectors and DC values are told alike.
-use Rattle.std.proofs.Common.{arith, ◌≡◌, ℕ, ℤ, pos, Bool, true, false, List, Option, refl, sym, ap, ◌∙◌}
+use Rattle.std.proofs.Common.{◌≡◌, ℕ, ℤ, pos, Bool, true, false, not, ◌||◌, List, Option, refl, sym, ap, ap₂, ◌∙◌}
 use Rattle.std.specs.Prelude.{option_map}
-use Rattle.std.proofs.lemmas.Bool.{not-false}
+use Rattle.std.proofs.lemmas.Bool.{not-false, not-true}
 use Rattle.dirac_common.specs.declared.faults.Cause.{Cause}
 use Rattle.dirac_common.specs.declared.formats.Vector.{Vector}
 use Rattle.dirac_common.specs.declared.faults.Cause.TheVariants.{VectorRange, DcRange}
@@ -22,6 +22,8 @@ use Rattle.dirac_blocks.specs.Decisions.{counted, less_prediction, predicted}
 use Rattle.dirac_blocks.specs.Grammar.{value_coded, coded_into, unit_coded, uses, is_dc, with_across, with_down, with_dc}
 use Rattle.dirac_blocks.specs.Parts.{vector_at, dc_at, part_at}
 use Rattle.dirac_block_table.specs.Tables.{BlockTable, IsBlock, IsBlockTable, block_at}
+use Rattle.dirac_blocks.specs.declared.parts.Axis.TheVariants as axes
+use Rattle.dirac_blocks.proofs.UnitValues.{component_lawful, dc_lawful}
 use Rattle.dirac_blocks.proofs.Nearby.{Near, vector_near, dc_near, vector_short, dc_short}
 
 -- a value that is told by its difference: the contexts of that, the prediction, and the cause where the sum hasn't 16
@@ -93,17 +95,87 @@ dc_in components.U b = b.dc_u
 dc_in components.V b = b.dc_v
 
 pub across_value : (k : Reference) → IsValue (parts.Across k) (uses k) (λ b. (vector_in k b).x) (with_across k)
-across_value references.First = grind arith
-across_value references.Second = grind arith
+across_value references.First =
+    record {
+      has_put = λ b v. refl;
+      value_put = λ b v. refl;
+      own = λ b. refl;
+      with_is = λ b c. refl;
+      short = λ refs b h. h.v1.x;
+      alike = λ b c p q. p;
+      none = λ refs b h e. ap (λ (v : Vector). v.x) (h.no_v1 e);
+      lawful = λ refs b v h is short. component_lawful refs axes.Across references.First b v h is short;
+    }
+across_value references.Second =
+    record {
+      has_put = λ b v. refl;
+      value_put = λ b v. refl;
+      own = λ b. refl;
+      with_is = λ b c. refl;
+      short = λ refs b h. h.v2.x;
+      alike = λ b c p q. q;
+      none = λ refs b h e. ap (λ (v : Vector). v.x) (h.no_v2 e);
+      lawful = λ refs b v h is short. component_lawful refs axes.Across references.Second b v h is short;
+    }
 
 pub down_value : (k : Reference) → IsValue (parts.Down k) (uses k) (λ b. (vector_in k b).y) (with_down k)
-down_value references.First = grind arith
-down_value references.Second = grind arith
+down_value references.First =
+    record {
+      has_put = λ b v. refl;
+      value_put = λ b v. refl;
+      own = λ b. refl;
+      with_is = λ b c. refl;
+      short = λ refs b h. h.v1.y;
+      alike = λ b c p q. p;
+      none = λ refs b h e. ap (λ (v : Vector). v.y) (h.no_v1 e);
+      lawful = λ refs b v h is short. component_lawful refs axes.Down references.First b v h is short;
+    }
+down_value references.Second =
+    record {
+      has_put = λ b v. refl;
+      value_put = λ b v. refl;
+      own = λ b. refl;
+      with_is = λ b c. refl;
+      short = λ refs b h. h.v2.y;
+      alike = λ b c p q. q;
+      none = λ refs b h e. ap (λ (v : Vector). v.y) (h.no_v2 e);
+      lawful = λ refs b v h is short. component_lawful refs axes.Down references.Second b v h is short;
+    }
 
 pub dc_value : (c : Component) → IsValue (parts.Dc c) is_dc (dc_in c) (with_dc c)
-dc_value components.Y = grind (arith, not-false)
-dc_value components.U = grind (arith, not-false)
-dc_value components.V = grind (arith, not-false)
+dc_value components.Y =
+    record {
+      has_put = λ b v. refl;
+      value_put = λ b v. refl;
+      own = λ b. refl;
+      with_is = λ b c. refl;
+      short = λ refs b h. h.dc_y;
+      alike = λ b c p q. ap₂ (λ (x y : Bool). not (x || y)) p q;
+      none = λ refs b h e. (h.no_dc (not-false (b.ref1 || b.ref2) e)).0;
+      lawful = λ refs b v h is short. dc_lawful refs components.Y b v h (not-true (b.ref1 || b.ref2) is) short;
+    }
+dc_value components.U =
+    record {
+      has_put = λ b v. refl;
+      value_put = λ b v. refl;
+      own = λ b. refl;
+      with_is = λ b c. refl;
+      short = λ refs b h. h.dc_u;
+      alike = λ b c p q. ap₂ (λ (x y : Bool). not (x || y)) p q;
+      none = λ refs b h e. (h.no_dc (not-false (b.ref1 || b.ref2) e)).1;
+      lawful = λ refs b v h is short. dc_lawful refs components.U b v h (not-true (b.ref1 || b.ref2) is) short;
+    }
+dc_value components.V =
+    record {
+      has_put = λ b v. refl;
+      value_put = λ b v. refl;
+      own = λ b. refl;
+      with_is = λ b c. refl;
+      short = λ refs b h. h.dc_v;
+      alike = λ b c p q. ap₂ (λ (x y : Bool). not (x || y)) p q;
+      none = λ refs b h e. (h.no_dc (not-false (b.ref1 || b.ref2) e)).2;
+      lawful = λ refs b v h is short. dc_lawful refs components.V b v h (not-true (b.ref1 || b.ref2) is) short;
+    }
 
 pub counted_map : (h : Vector → ℤ) (b : Bool) (v : Vector) → option_map h (counted b v) ≡ counted b (h v)
 counted_map h true v = refl
