@@ -4,3 +4,4 @@ pub mod Going
 pub mod Finding
 pub mod Reading
 pub mod OfRead
+pub mod Closing

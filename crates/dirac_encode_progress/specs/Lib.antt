@@ -1,3 +1,4 @@
 pub mod Going
 pub mod Alone
 pub mod PictureCoding
+pub mod Rest

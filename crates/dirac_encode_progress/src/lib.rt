@@ -8,6 +8,7 @@ mod ending;
 mod pictures;
 mod planned;
 mod progress;
+mod rest;
 mod source;
 mod units;
 

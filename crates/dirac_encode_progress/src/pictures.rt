@@ -1,13 +1,14 @@
 //! Raw pictures, read one after another and coded as they are planned.
 
-ghost use Rattle.std.specs.Prelude.{◌≡◌, ◌≤◌, ◌<◌, ◌^◌, ℕ, length, IfSome};
+ghost use Rattle.std.specs.Prelude.{◌≡◌, ◌≤◌, ◌<◌, ◌^◌, ℕ, length, IfSome, OnOk, false};
 ghost use Rattle.std.specs.List.{AllByRecursion};
 ghost use Rattle.std.specs.Io.KnownBytes.{IsAtEnd};
 ghost use Rattle.dirac_io.specs.Faults.{Rose};
 ghost use Rattle.dirac_types.specs.Settings.{IsAccepted};
 ghost use Rattle.dirac_sequence.specs.Written.{sequence_payload};
-ghost use Rattle.dirac_sources.specs.Sources.{raw_length as length_of};
-ghost use Rattle.dirac_plan.specs.Planning.{empty_planning};
+ghost use Rattle.dirac_sources.specs.Sources.{picture_from, raw_length as length_of};
+ghost use Rattle.dirac_plan.specs.Planning.{empty_planning, is_closed, with_picture};
+ghost use Rattle.dirac_encode_laws.specs.Coded.{IsSource};
 ghost use Rattle.dirac_encode_laws.specs.Encoding.{AnswersEncodedStream, EncodesToTheEnd, IsRecoveredUnder};
 ghost use Rattle.dirac_encode_laws.specs.Encoding.{answer_behind, encoding_under};
 ghost use Rattle.dirac_encode_laws.specs.Fit.{rule_of};
@@ -17,9 +18,9 @@ ghost use Rattle.dirac_encode_progress.specs.Going.{so_far};
 ghost use Rattle.dirac_encode_progress.specs.PictureCoding.{CodesUnder};
 
 use crate::coder::Coder;
-use crate::ending::put_last;
 use crate::planned::put_planned;
 use crate::progress::Progress;
+use crate::rest::put_rest;
 use dirac_common::{NoMemory, Picture};
 use dirac_encode_laws::{Coded, Encoded, streams_show_their_pictures};
 use dirac_io::{Filled, Sink, Source, fill};
@@ -33,9 +34,32 @@ fn are_bytes(bytes: &[u8])
     ensures { AllByRecursion (λ b. b < 2 ^ 8) bytes.now }
 {}
 
+/// Hands the raw picture in `bytes` to a planner that takes one more.
+fn push_raw<F>(coder: &Coder<F>, planner: &mut Planner, bytes: &[u8]) -> Result<(), NoMemory>
+    requires accepted { IsAccepted coder.now.settings.now }
+    requires bytes { length bytes.now ≡ length_of coder.now.settings.now }
+    requires in_range { planner.old.accepted < coder.now.settings.now.pictures }
+    requires not_ended { planner.old.ended ≡ false }
+    requires opened { is_closed planner.old ≡ false }
+    ensures pushed { OnOk result (planner.new ≡ with_picture planner.old
+        (picture_from coder.now.settings.now planner.old.accepted bytes.now)) }
+    ensures source { OnOk result (IsSource coder.now.settings.now
+        (picture_from coder.now.settings.now planner.old.accepted bytes.now)) }
+    ensures below_256 { AllByRecursion (λ b. b < 2 ^ 8) bytes.now }
+{
+    are_bytes(bytes);
+    let number = planner.accepted();
+    let picture = picture_of(coder.alloc, coder.settings, number, bytes)?;
+    let Ok(()) = planner.push(picture) else {
+        unreachable!();
+    };
+    Ok(())
+}
+
 /// The answer where that many bytes are left over whole pictures.
 fn behind_whole(left_over: usize) -> Encoded
-    ensures { result ≡ answer_behind left_over }
+    ensures value { result ≡ answer_behind left_over }
+    ensures ends { EncodesToTheEnd result }
 {
     if left_over == 0 {
         Encoded::Done
@@ -95,32 +119,16 @@ pub fn put_pictures<
         match fill(source, bytes) {
             Filled::Failed => return Encoded::ReadFault,
             Filled::Ended(n) => {
-                if let Err(answer) = put_planned(coder, out, side, planner, true, coding) {
-                    return answer;
-                }
-                if let Err(fault) = put_last(coder, out, side, coding) {
-                    return fault;
-                }
-                return behind_whole(n);
+                return put_rest(coder, out, side, planner, coding, behind_whole(n));
             }
             Filled::Whole => {}
         }
         let number = planner.accepted();
         if number == settings.pictures {
-            if let Err(answer) = put_planned(coder, out, side, planner, true, coding) {
-                return answer;
-            }
-            if let Err(fault) = put_last(coder, out, side, coding) {
-                return fault;
-            }
-            return Encoded::TooManyPictures;
+            return put_rest(coder, out, side, planner, coding, Encoded::TooManyPictures);
         }
-        are_bytes(bytes);
-        let Ok(picture) = picture_of(coder.alloc, settings, number, bytes) else {
+        let Ok(()) = push_raw(coder, planner, bytes) else {
             return Encoded::NoMemory;
-        };
-        let Ok(()) = planner.push(picture) else {
-            unreachable!();
         };
         if let Err(answer) = put_planned(coder, out, side, planner, false, coding) {
             return answer;
