@@ -1,4 +1,5 @@
-use Rattle.std.proofs.Common.{refl, ◌∙◌, ap, sym, ◌+◌, ◌*◌, List}
+use Rattle.std.proofs.Common.{refl, ◌∙◌, ap, sym, ◌+◌, ◌*◌, ◌≤◌, List, arith}
+use Rattle.std.proofs.lemmas.Nat.{mul-le}
 use Rattle.dirac_block_table.specs.declared.block.Block.{Block}
 use Rattle.dirac_block_table.specs.Filling.{row_filled, rows_filled}
 use Rattle.dirac_block_table.proofs.Fills.{rows_filled_next}
@@ -17,3 +18,26 @@ rows-preserved c =
           ∙ sym (rows_filled_next c.args.width c.args.blocks.now.items c.args.size c.args.i c.args.j c.args.block c.rows.n);
       len = c.fill_row.ensures.len ∙ c.rows.invariant.len;
     }
+
+pub overflow_add-j : goal.overflow_add-j
+overflow_add-j c =
+    let whole : (c.args.j + c.args.count) * 1 ≤ (c.args.j + c.args.count) * c.args.width = mul-le (c.args.j + c.args.count) 1 (c.args.j + c.args.count) c.args.width (omega arith) (omega arith) in
+    omega arith
+
+pub overflow_mul-j : goal.overflow_mul-j
+overflow_mul-j c =
+    let whole : (c.args.j + c.rows.n) * c.args.width ≤ (c.args.j + c.args.count) * c.args.width = mul-le (c.args.j + c.rows.n) c.args.width (c.args.j + c.args.count) c.args.width (omega arith) (omega arith) in
+    omega arith
+
+pub overflow_add-j-in-rows : goal.overflow_add-j-in-rows
+overflow_add-j-in-rows c =
+    let whole : (c.args.j + c.rows.n + 1) * c.args.width ≤ (c.args.j + c.args.count) * c.args.width = mul-le (c.args.j + c.rows.n + 1) c.args.width (c.args.j + c.args.count) c.args.width (omega arith) (omega arith) in
+    omega arith
+
+pub fill_row-requires-clause-inside : goal.fill_row-requires-clause-inside
+fill_row-requires-clause-inside c =
+    let whole : (c.args.j + c.rows.n + 1) * c.args.width ≤ (c.args.j + c.args.count) * c.args.width = mul-le (c.args.j + c.rows.n + 1) c.args.width (c.args.j + c.args.count) c.args.width (omega arith) (omega arith) in
+    omega (arith, c.rows.invariant.len)
+
+pub fill_row-requires-clause-at_most_2_24 : goal.fill_row-requires-clause-at_most_2_24
+fill_row-requires-clause-at_most_2_24 c = omega (arith, c.rows.invariant.len)
