@@ -43,7 +43,7 @@ InsidesMayBeTaken =
     (g : Searched) (s : Settings) (stage : Stage) (before : Option Vectors) (i j : ℕ)
     → IsSearch g s → IsStage s stage → (s.alike ≡ 0 → ⊥)
     → taken_candidates g s stage before i j
-        ≡ filter (stage_keeps g s stage i j) (candidates_of stage s.range before i j)
+    ≡ filter (stage_keeps g s stage i j) (candidates_of stage s.range before i j)
 
 -- and the vectors that are found keep inside
 abbrev pub FieldsKeepInside : Type 0
