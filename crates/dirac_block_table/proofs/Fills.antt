@@ -273,3 +273,8 @@ split_lawful t sx sy split inv all two =
       blocks = inv.blocks;
       units = λ x y p q hx hy hp hq. all _ ∙ sym (all _);
     }
+
+-- where another table is the same, so is the unit that is written
+pub unit_written : (t u : BlockTable) (blocks : List Block) (size i j : ℕ) (b : Block) → t ≡ u → blocks ≡ rows_filled (4 * t.across) t.blocks size i j b size → (let v : BlockTable = record t { blocks = blocks } in v ≡ with_unit u size i j b)
+unit_written t u blocks size i j b same is =
+    ap (λ (bs : List Block). let v : BlockTable = record t { blocks = bs } in v) is ∙ ap (λ (v : BlockTable). with_unit v size i j b) same

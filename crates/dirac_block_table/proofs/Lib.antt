@@ -1,4 +1,5 @@
 mod Beside
+pub mod Empty
 pub mod Fills
 pub mod Putting
 pub mod Units

@@ -86,9 +86,48 @@ table_put t sx sy split new =
       blocks = new;
     }
 
+-- places in lists of a table are small
+pub place_small : (y w x h : ℕ) → y < h → x < w → h ≤ 4096 → w ≤ 4096 → y * w + x < 2 ^ 24
+place_small y w x h p q tall wide =
+    let most : y * w ≤ 4095 * 4096 = mul-le y w 4095 4096 (omega arith) wide in
+    omega arith
+
+-- a block's place in the list of blocks
+pub block_inside : (t u : BlockTable) (i j : ℕ) → t ≡ u → IsBlockTable t → i < 4 * u.across → j < 4 * u.down → j * (4 * t.across) + i < length t.blocks
+block_inside t u i j same inv p q =
+    let column : i < 4 * t.across = subst (λ (v : BlockTable). i < 4 * v.across) (sym same) p in
+    let row : j < 4 * t.down = subst (λ (v : BlockTable). j < 4 * v.down) (sym same) q in
+    omega (arith, mul-add-lt j (4 * t.across) i (4 * t.down) row column, inv.blocks_len)
+
+pub block_small : (t u : BlockTable) (i j : ℕ) → t ≡ u → IsBlockTable t → i < 4 * u.across → j < 4 * u.down → j * (4 * t.across) + i < 2 ^ 24
+block_small t u i j same inv p q =
+    place_small j (4 * t.across) i (4 * t.down) (subst (λ (v : BlockTable). j < 4 * v.down) (sym same) q) (subst (λ (v : BlockTable). i < 4 * v.across) (sym same) p)
+    (omega (arith, inv.size.most_down)) (omega (arith, inv.size.most_across))
+
+pub blocks_few : (t : BlockTable) → IsBlockTable t → length t.blocks ≤ 2 ^ 24
+blocks_few t inv =
+    let most : 4 * t.down * (4 * t.across) ≤ 4096 * 4096 = mul-le (4 * t.down) (4 * t.across) 4096 4096 (omega (arith, inv.size.most_down)) (omega (arith, inv.size.most_across)) in
+    omega (arith, inv.blocks_len)
+
+-- the rows of a superblock
+pub superblock_rows : (t u : BlockTable) (sy : ℕ) → t ≡ u → IsBlockTable t → sy < u.down → (4 * sy + 4) * (4 * t.across) ≤ length t.blocks
+superblock_rows t u sy same inv h =
+    let row : sy < t.down = subst (λ (v : BlockTable). sy < v.down) (sym same) h in
+    let whole : (4 * sy + 4) * (4 * t.across) ≤ 4 * t.down * (4 * t.across) = mul-le (4 * sy + 4) (4 * t.across) (4 * t.down) (4 * t.across) (omega arith) (omega arith) in
+    omega (arith, inv.blocks_len)
+
 -- a superblock's place in the list of splits
 pub split_inside : (t : BlockTable) (x y : ℕ) → IsBlockTable t → x < t.across → y < t.down → y * t.across + x < length t.splits
 split_inside t x y inv h l = omega (arith, mul-add-lt y t.across x t.down l h, inv.splits_len)
+
+pub split_there : (t u : BlockTable) (x y : ℕ) → t ≡ u → IsBlockTable t → x < u.across → y < u.down → y * t.across + x < length t.splits
+split_there t u x y same inv h l =
+    split_inside t x y inv (subst (λ (v : BlockTable). x < v.across) (sym same) h) (subst (λ (v : BlockTable). y < v.down) (sym same) l)
+
+pub split_small : (t u : BlockTable) (x y : ℕ) → t ≡ u → IsBlockTable t → x < u.across → y < u.down → y * t.across + x < 2 ^ 24
+split_small t u x y same inv h l =
+    place_small y t.across x t.down (subst (λ (v : BlockTable). y < v.down) (sym same) l) (subst (λ (v : BlockTable). x < v.across) (sym same) h)
+    (omega (arith, inv.size.most_down)) (omega (arith, inv.size.most_across))
 
 pub put_is : (t : BlockTable) (sx sy split : ℕ) (units new : List Block) → IsBlockTable t → sx < t.across → sy < t.down
     → RowsPut (4 * t.across) (4 * sx) (4 * sy) split units 4 t.blocks new → IsPut t sx sy split units (table_put t sx sy split new)

@@ -4,7 +4,6 @@
 
 mod block;
 mod filling;
-mod lists;
 mod neighbours;
 mod reference;
 mod shared;

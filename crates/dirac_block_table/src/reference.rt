@@ -1,5 +1,5 @@
 /// The first or the second reference of a picture.
-#[derive(Clone, Copy, PartialEq, Eq)]
+#[derive(Clone, Copy)]
 pub enum Reference {
     First,
     Second,

@@ -7,7 +7,6 @@ ghost use Rattle.dirac_block_table.specs.Tables.{block_at};
 
 use crate::block::Block;
 use crate::filling::fill_rows;
-use crate::lists::{new_blocks, new_splits};
 use crate::superblock::put_superblock;
 use dirac_common::{NoMemory, Vector};
 use std::alloc::Global;
@@ -61,8 +60,8 @@ impl BlockData {
     {
         let columns = across as usize;
         let rows = down as usize;
-        match new_splits(alloc, rows * columns) {
-            Ok(splits) => match new_blocks(alloc, grey_block(), 4 * rows * (4 * columns)) {
+        match vec![in alloc; 0u8; rows * columns] {
+            Ok(splits) => match vec![in alloc; grey_block(); 4 * rows * (4 * columns)] {
                 Ok(blocks) => Ok(BlockData {
                     across,
                     down,
@@ -70,9 +69,9 @@ impl BlockData {
                     splits,
                     blocks,
                 }),
-                Err(e) => Err(e),
+                Err(_) => Err(NoMemory),
             },
-            Err(e) => Err(e),
+            Err(_) => Err(NoMemory),
         }
     }
 
