@@ -1,5 +1,5 @@
 -- The lists of a table in their order: what is left to be read behind the first of them, and what the first are.
-use Rattle.std.proofs.Common.{◌≡◌, ℕ, zero, suc, ◌+◌, ◌<◌, ◌≤◌, ◌==◌, inl, inr, Bool, true, false, List, [], ◌∷◌, ◌++◌, Option, None, Result, Ok, Err, refl, sym, ap, subst, ◌∙◌, arith, slice_index_or}
+use Rattle.std.proofs.Common.{◌≡◌, ℕ, zero, suc, ◌+◌, ◌<◌, ◌≤◌, ◌==◌, inl, inr, Bool, true, false, true≢false, List, [], ◌∷◌, ◌++◌, Option, None, Result, Ok, Err, refl, sym, ap, subst, ◌∙◌, arith, slice_index_or}
 use Rattle.std.specs.Prelude.{if◌then◌else◌}
 use native.Mathlib.Numerals.{unary_clauses}
 use Rattle.std.proofs.lemmas.Bool.{cases_eq}
@@ -119,32 +119,19 @@ list_stops (suc (suc (suc (suc (suc (suc (suc (suc (suc n))))))))) t c e l there
 -- where it isn't there, the same is left
 pub list_absent : (n : ℕ) (t : BlockTable) (c : Cursor) → n < 9 → is_there (list_at n) t.refs ≡ false → read (left_to_read n t) c ≡ read (left_to_read (n + 1) t) c
 unfolding second_listed
-list_absent zero t c l not = cc
-list_absent (suc zero) t c l not = cc
-list_absent (suc (suc zero)) t c l not = cc
-list_absent (suc (suc (suc zero))) t c l not = cc
+list_absent zero t c l not = absurd (true≢false not)
+list_absent (suc zero) t c l not = absurd (true≢false not)
+list_absent (suc (suc zero)) t c l not = absurd (true≢false not)
+list_absent (suc (suc (suc zero))) t c l not = absurd (true≢false not)
 list_absent (suc (suc (suc (suc zero)))) t c l not =
     ap (λ (b : Bool). read ((if b then vectors_listed references.Second t else done t) >>= (λ v. dcs_listed v)) c) not
     ∙ ap (λ (b : Bool). read ((if b then list_over (units_step (parts.Down references.Second)) t else done t) >>= (λ v. dcs_listed v)) c) (sym not)
 list_absent (suc (suc (suc (suc (suc zero))))) t c l not =
     ap (λ (b : Bool). read ((if b then list_over (units_step (parts.Down references.Second)) t else done t) >>= (λ v. dcs_listed v)) c) not
-list_absent (suc (suc (suc (suc (suc (suc zero)))))) t c l not = cc
-list_absent (suc (suc (suc (suc (suc (suc (suc zero))))))) t c l not = cc
-list_absent (suc (suc (suc (suc (suc (suc (suc (suc zero)))))))) t c l not = cc
+list_absent (suc (suc (suc (suc (suc (suc zero)))))) t c l not = absurd (true≢false not)
+list_absent (suc (suc (suc (suc (suc (suc (suc zero))))))) t c l not = absurd (true≢false not)
+list_absent (suc (suc (suc (suc (suc (suc (suc (suc zero)))))))) t c l not = absurd (true≢false not)
 list_absent (suc (suc (suc (suc (suc (suc (suc (suc (suc n))))))))) t c l not = absurd (omega arith)
-
--- the list of the splits is the first
-pub splits_first : (n : ℕ) → n < 9 → list_at n ≡ None → n ≡ 0
-splits_first zero l none = refl
-splits_first (suc zero) l none = cc
-splits_first (suc (suc zero)) l none = cc
-splits_first (suc (suc (suc zero))) l none = cc
-splits_first (suc (suc (suc (suc zero)))) l none = cc
-splits_first (suc (suc (suc (suc (suc zero))))) l none = cc
-splits_first (suc (suc (suc (suc (suc (suc zero)))))) l none = cc
-splits_first (suc (suc (suc (suc (suc (suc (suc zero))))))) l none = cc
-splits_first (suc (suc (suc (suc (suc (suc (suc (suc zero)))))))) l none = cc
-splits_first (suc (suc (suc (suc (suc (suc (suc (suc (suc n))))))))) l none = absurd (omega arith)
 
 -- the first n of a table's lists, where they are there
 abbrev pub lists_before : BlockTable → ℕ → List (List Decision)

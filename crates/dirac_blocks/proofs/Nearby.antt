@@ -3,7 +3,6 @@ use Rattle.std.proofs.Common.{◌≡◌, ℕ, ℤ, ◌+◌, ◌-◌, ◌*◌, in
 use Rattle.std.specs.Prelude.{option_map}
 use Rattle.std.proofs.lemmas.Bool.{cases_eq, cases_lt, eq-eqb, ne_eqb}
 use Rattle.std.proofs.lemmas.List.{get_or_past}
-use Rattle.std.proofs.lemmas.Int.{ints}
 use Rattle.dirac_common.specs.declared.formats.Vector.{Vector}
 use Rattle.dirac_common.specs.Samples.{mean_of_three}
 use Rattle.dirac_vectors.proofs.Means.{mean_of_two_short, mean_of_three_short, median_short}
@@ -18,6 +17,8 @@ use Rattle.dirac_blocks.specs.Decisions.{left_of, above_of, corner_of, predicted
 use Rattle.dirac_blocks.specs.Grammar.{block_using, is_dc}
 use Rattle.dirac_blocks.specs.Parts.{vector_at, dc_at}
 use Rattle.dirac_block_table.specs.Tables.{BlockTable, IsBlock, IsBlockTable, block_at, grey}
+pub use Rattle.dirac_block_table.proofs.Empty.{grey_lawful}
+use Rattle.dirac_block_table.proofs.Empty.{none_short, zero_short}
 use Rattle.dirac_blocks.proofs.Going.{Same}
 
 -- what two tables have in common left, above and above and left of a place
@@ -87,11 +88,8 @@ dc_near components.V t u i j near = view_near dc_of (λ b. counted (is_dc b) b.d
 
 -- a block all of whose values are 0
 pub using_lawful : (refs : ℕ) (a b : Bool) → (refs ≡ 1 → b ≡ false) → IsBlock refs (block_using a b)
-using_lawful refs a b single = grind (arith, ints)
-
--- a block outside the list is one of value 0
-pub grey_lawful : (refs : ℕ) → IsBlock refs grey
-grey_lawful refs = using_lawful refs false false (λ e. refl)
+using_lawful refs a b single =
+    record { second = single; v1 = none_short; v2 = none_short; dc_y = zero_short; dc_u = zero_short; dc_v = zero_short; no_v1 = λ e. refl; no_v2 = λ e. refl; no_dc = λ e. (refl, refl, refl) }
 
 pub block_lawful : (t : BlockTable) (i j : ℕ) → IsBlockTable t → IsBlock t.refs (block_at t i j)
 block_lawful t i j inv =
@@ -109,7 +107,7 @@ OfSome P (Some x) = P x
 -- predictions of values of 16 bits have 16 bits
 of_neighbours_short : (three : ℤ → ℤ → ℤ → ℤ) → ((a b c : ℤ) → IsShort a → IsShort b → IsShort c → IsShort (three a b c)) → (l a c : Option ℤ)
     → OfSome IsShort l → OfSome IsShort a → OfSome IsShort c → IsShort (of_neighbours three l a c)
-of_neighbours_short three of_three None None None p q r = record { least = omega (arith, ints); most = omega (arith, ints) }
+of_neighbours_short three of_three None None None p q r = zero_short
 of_neighbours_short three of_three (Some l) None None p q r = p
 of_neighbours_short three of_three None (Some a) None p q r = q
 of_neighbours_short three of_three None None (Some c) p q r = r

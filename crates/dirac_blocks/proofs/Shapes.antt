@@ -1,12 +1,13 @@
 -- Steps of a table, its sizes and its units.
-use Rattle.std.proofs.Common.{◌≡◌, ℕ, ◌+◌, ◌*◌, ◌^◌, ◌<◌, ◌≤◌, Result, refl, sym, ap, ap₂, ◌∙◌, arith, subst, List, slice_index_or}
+use Rattle.std.proofs.Common.{◌≡◌, ℕ, ◌+◌, ◌*◌, ◌%◌, ◌^◌, ◌<◌, ◌≤◌, [], ◌∷◌, Result, Ok, Err, refl, sym, ap, ap₂, ◌∙◌, arith, subst, List, slice_index_or}
 use Rattle.std.proofs.lemmas.Nat.{mul-le}
 use Rattle.dirac_common.specs.declared.faults.Cause.{Cause}
 use Rattle.dirac_arith.specs.Coded.{read_coded, repeated}
+use Rattle.dirac_arith.specs.Deciding.{number_read}
 use Rattle.dirac_arith.specs.Reading.{Reading}
 use Rattle.dirac_blocks.specs.declared.parts.ListKind.{ListKind}
-use Rattle.dirac_blocks.specs.Decisions.{UnitPart, superblock_part, unit_rows}
-use Rattle.dirac_blocks.specs.Grammar.{TableStep, superblock_step, unit_rows_step}
+use Rattle.dirac_blocks.specs.Decisions.{UnitPart, predicted_split, superblock_part, unit_rows}
+use Rattle.dirac_blocks.specs.Grammar.{TableStep, split_step, superblock_step, unit_rows_step, with_split}
 use Rattle.dirac_blocks.specs.Reached.{IsFirstOfUnit, SameBlocks, SameShape, SameSize}
 use Rattle.dirac_block_table.specs.Tables.{BlockTable, split_at, unit_size}
 use Rattle.dirac_block_table.proofs.Units.{of_splits}
@@ -105,3 +106,16 @@ superblock_told part t sx sy split size across n is p q all =
     ap (λ (k : ℕ). unit_rows part k across (4 * sx) (4 * sy) n) blocks
     ∙ ap (λ (k : ℕ). unit_rows part (unit_size s) k (4 * sx) (4 * sy) n) units
     ∙ ap (λ (k : ℕ). unit_rows part (unit_size s) (2 ^ s) (4 * sx) (4 * sy) k) (all ∙ units)
+
+-- a split that is read, and written into the table
+pub split_found : (t u : BlockTable) (sx sy number : ℕ) (old new : Reading) → number_read (22 ∷ 23 ∷ []) 24 old ≡ Ok (number, new) → u ≡ with_split t sx sy ((number + predicted_split t sx sy) % 3)
+    → read_coded (split_step sy sx t) old ≡ Ok (u, new)
+unfolding split_step
+split_found t u sx sy number old new found is = rw found (ap (λ (v : BlockTable). let x : Result (BlockTable × Reading) Cause = Ok (v, new) in x) (sym is))
+
+pub split_refused : (t : BlockTable) (sx sy : ℕ) (old : Reading) (e : Cause) → number_read (22 ∷ 23 ∷ []) 24 old ≡ Err e → read_coded (split_step sy sx t) old ≡ Err e
+unfolding split_step
+split_refused t sx sy old e refused = rw refused refl
+
+pub split_written : (t u : BlockTable) (sx sy split : ℕ) → u ≡ with_split t sx sy split → SameBlocks t u
+split_written t u sx sy split is = subst (SameBlocks t) (sym is) (record { across = refl; down = refl; refs = refl; blocks = refl })

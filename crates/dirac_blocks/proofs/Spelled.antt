@@ -2,8 +2,7 @@
 use Rattle.std.proofs.Common.{◌≡◌, ℕ, ◌+◌, ◌-◌, ◌*◌, ◌/◌, ◌%◌, ◌^◌, ◌<◌, ◌≤◌, inl, inr, Bool, List, [], ◌∷◌, ◌++◌, length, map, replicate, Option, Some, None, Result, refl, sym, ap, ◌∙◌, arith, subst, append_assoc, append-nil, length-append, get_or, ext_get_or}
 use Rattle.std.specs.Prelude.{if◌then◌else◌}
 use Rattle.std.proofs.lemmas.Bool.{cases_eq, cases_lt, eq-eqb, ne_eqb}
-use Rattle.std.proofs.lemmas.List.{length-replicate, length-map, get_or-map, get_or-replicate, get_or_past}
-use Rattle.std.proofs.lemmas.List.Elements.{All-from_get_or}
+use Rattle.std.proofs.lemmas.List.{length-map, get_or-map, get_or_past}
 use Rattle.std.proofs.lemmas.Simd.{splat_is_map}
 use Rattle.dirac_common.specs.declared.faults.Cause.{Cause}
 use Rattle.dirac_common.specs.declared.formats.Vector.{Vector}
@@ -30,7 +29,8 @@ use Rattle.dirac_blocks.specs.Grammar.{TableStep, empty_table, list_over, table_
 use Rattle.dirac_blocks.specs.Parts.{part_at}
 use Rattle.dirac_arith.specs.Coded as coded
 use Rattle.dirac_arith.specs.Reading.{Reading}
-use Rattle.dirac_block_table.specs.Tables.{BlockTable, IsBlock, IsBlockTable, IsTableSize, split_at, grey, no_vector}
+use Rattle.dirac_block_table.specs.Tables.{BlockTable, IsBlock, IsBlockTable, split_at, grey, no_vector}
+pub use Rattle.dirac_block_table.proofs.Empty.{empty_lawful}
 use Rattle.dirac_blocks.specs.Written.{with_block, with_lists, ListsHaveShortBlocks}
 use Rattle.dirac_blocks.proofs.Appended.{lists_append}
 use Rattle.dirac_blocks.proofs.InContexts.{in_split_rows}
@@ -90,25 +90,6 @@ predicted_few t sx sy inv =
 
 pub least_sum : (s p : ℕ) → s ≤ 2 → p ≤ 2 → ((s + 3 - p) % 3 + p) % 3 ≡ s
 least_sum s p h k = omega arith
-
--- a table of which nothing is read is lawful
-pub empty_lawful : (across down refs : ℕ) → IsTableSize across down refs → IsBlockTable (empty_table across down refs)
-empty_lawful across down refs size =
-    let t = empty_table across down refs in
-    let blocks_len = length-replicate (4 * down * (4 * across)) grey in
-    let all : (k : ℕ) → get_or t.blocks k grey ≡ grey = λ k.
-    elim (cases_lt k (4 * down * (4 * across))) [
-      | inl inside ↦ get_or-replicate (4 * down * (4 * across)) k grey grey inside
-      | inr past ↦ get_or_past t.blocks k grey (omega (arith, blocks_len))
-    ] in
-    record {
-      size = size;
-      splits_len = length-replicate (down * across) 0;
-      blocks_len = blocks_len;
-      splits = All-from_get_or (λ s. s ≤ 2) t.splits 0 (λ k l. subst (λ (n : ℕ). n ≤ 2) (sym (get_or-replicate (down * across) k 0 0 (omega (arith, length-replicate {A = ℕ} (down * across) 0)))) (omega arith));
-      blocks = All-from_get_or (IsBlock refs) t.blocks grey (λ k l. subst (IsBlock refs) (sym (all k)) (grey_lawful refs));
-      units = λ sx sy i j p q r s. all _ ∙ sym (all _);
-    }
 
 -- before any block is read
 abbrev pub nothing_yet : Block → Block

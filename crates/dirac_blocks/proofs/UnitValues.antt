@@ -1,17 +1,18 @@
 -- What is read of a unit.
-use Rattle.std.proofs.Common.{arith, ◌≡◌, ℕ, ℤ, ◌-◌, ◌^◌, ◌<◌, ◌+ℤ◌, ◌-ℤ◌, w32, w64, Bool, true, false, ◌||◌, not, List, Option, Some, None, Result, Ok, Err, refl, sym, ap, ◌∙◌, subst}
+use Rattle.std.proofs.Common.{arith, ◌≡◌, ℕ, ℤ, ◌-◌, ◌^◌, ◌<◌, ◌+ℤ◌, ◌-ℤ◌, of_z, to_z, w32, w64, Bool, true, false, ◌||◌, not, List, [], ◌∷◌, Option, Some, None, Result, Ok, Err, refl, sym, ap, ap₂, ◌∙◌, subst}
 use Rattle.std.specs.Prelude.{if◌then◌else◌, nat_abs}
 use Rattle.std.specs.Int.RustNames.{FitsSigned}
-use Rattle.std.proofs.lemmas.Bool.{both_ways}
-use Rattle.std.proofs.lemmas.Int.{ints}
+use Rattle.std.proofs.lemmas.Bool.{both_ways, eq-eqb, ne_eqb}
+use Rattle.std.proofs.lemmas.Int.{ints, to_z-of_z}
 use Rattle.dirac_common.specs.declared.faults.Cause.{Cause}
-use Rattle.dirac_arith.specs.Coded.{Coded, done, refuse, read_coded}
-use Rattle.dirac_arith.specs.declared.contexts.TheConstants.{REFERENCE_1}
+use Rattle.dirac_arith.specs.Coded.{Coded, decide, done, refuse, read_coded}
+use Rattle.dirac_arith.specs.declared.contexts.TheConstants.{REFERENCE_1, REFERENCE_2}
 use Rattle.dirac_arith.specs.Deciding.{decision_read, signed_read}
 use Rattle.dirac_arith.proofs.CodedValues.{then_is_read}
-use Rattle.dirac_arith.specs.Interval.{Interval, narrowed_by}
+use Rattle.dirac_arith.specs.Interval.{Interval, narrowed, narrowed_by}
 use Rattle.dirac_arith.specs.Reading.{Reading}
 use Rattle.dirac_arith.specs.Spelling.{signed_spelling}
+use Rattle.dirac_vectors.proofs.Means.{passed}
 use Rattle.dirac_vectors.specs.Neighbours.{IsShort}
 use Rattle.dirac_block_table.specs.declared.block.Block.{Block}
 use Rattle.dirac_common.specs.declared.formats.Component.{Component}
@@ -21,7 +22,7 @@ use Rattle.dirac_block_table.specs.declared.reference.Reference.TheVariants as r
 use Rattle.dirac_vectors.specs.Predictions.{mode_of, vector_of}
 use Rattle.dirac_blocks.specs.declared.parts.Axis.{Axis}
 use Rattle.dirac_blocks.specs.declared.parts.Axis.TheVariants as axes
-use Rattle.dirac_blocks.specs.Decisions.{differ, less_prediction, predicted, ref1_at, vector_part}
+use Rattle.dirac_blocks.specs.Decisions.{differ, less_prediction, mode_part, predicted, ref1_at, ref2_at, vector_part}
 use Rattle.dirac_blocks.specs.Parts.{component_list, component_along, part_at, vector_at}
 use Rattle.dirac_blocks.specs.Grammar.{block_using, coded_into, component_coded, is_dc, has_16_bits, mode_coded, second_use, unit_coded, uses, value_coded, with_component, with_dc}
 use Rattle.dirac_block_table.specs.Tables.{BlockTable, IsBlock, block_at}
@@ -100,6 +101,19 @@ short_fits v short = omega (arith, ints)
 pub difference_fits : (v p : ℤ) → IsShort v → IsShort p → FitsSigned w64 (v -ℤ p)
 difference_fits v p h k = omega (arith, ints)
 
+-- what is stored in 64 bits stays
+pub number_passed : (n : ℤ) → nat_abs n < 2 ^ 39 - 1 → to_z w64 (of_z w64 n) ≡ n
+number_passed n small = to_z-of_z w64 n (omega (arith, ints))
+
+pub widened : (x v : ℤ) → x ≡ to_z w32 (of_z w32 v) → IsShort v → to_z w64 (of_z w64 x) ≡ v
+widened x v is short = ap (λ (z : ℤ). to_z w64 (of_z w64 z)) (is ∙ passed v short) ∙ to_z-of_z w64 v (omega (arith, ints))
+
+pub sum_passed : (n x v : ℤ) → nat_abs n < 2 ^ 39 - 1 → x ≡ to_z w32 (of_z w32 v) → IsShort v → to_z w64 (of_z w64 (to_z w64 (of_z w64 n) +ℤ to_z w64 (of_z w64 x))) ≡ n +ℤ v
+sum_passed n x v small is short = rw (number_passed n small, widened x v is short) (to_z-of_z w64 (n +ℤ v) (sum_fits n v small short))
+
+pub difference_passed : (x y v p : ℤ) → x ≡ to_z w32 (of_z w32 v) → y ≡ to_z w32 (of_z w32 p) → IsShort v → IsShort p → to_z w64 (of_z w64 (to_z w64 (of_z w64 x) -ℤ to_z w64 (of_z w64 y))) ≡ v -ℤ p
+difference_passed x y v p a b h k = rw (widened x v a h, widened y p b k) (to_z-of_z w64 (v -ℤ p) (difference_fits v p h k))
+
 pub short_difference : (v p : ℤ) → IsShort v → IsShort p → nat_abs (v -ℤ p) < 2 ^ 39 - 1
 short_difference v p h k = let a = h.least in let b = h.most in let c = k.least in let d = k.most in omega (arith, ints)
 
@@ -122,3 +136,35 @@ mode_stops t i j bit old mid e one two =
 
 pub mode_refused : (t : BlockTable) (i j : ℕ) (old : Reading) (e : Cause) → decision_read REFERENCE_1 old ≡ Err e → read_coded (mode_coded t i j) old ≡ Err e
 mode_refused t i j old e one = rw one refl
+
+-- whether a unit uses reference 2
+pub second_absent : (t : BlockTable) (i j : ℕ) (r : Reading) → (t.refs ≡ 2 → ⊥) → read_coded (second_use t i j) r ≡ Ok (false, r)
+second_absent t i j r one = rw (ne_eqb t.refs 2 one) refl
+
+pub second_found : (t : BlockTable) (i j : ℕ) (bit second : Bool) (old new : Reading) → t.refs ≡ 2 → second ≡ differ bit (predicted mode_of (ref2_at t) i j) → decision_read REFERENCE_2 old ≡ Ok (bit, new)
+    → read_coded (second_use t i j) old ≡ Ok (second, new)
+second_found t i j bit second old new two is found =
+    let P : Bool → Type 0 = λ b. read_coded (if b then decide REFERENCE_2 (λ x. done (differ x (predicted mode_of (ref2_at t) i j))) else done false) old ≡ Ok (second, new) in
+    subst P (sym (eq-eqb t.refs 2 two)) (rw found (ap (λ (b : Bool). let x : Result (Bool × Reading) Cause = Ok (b, new) in x) (sym is)))
+
+pub second_refused : (t : BlockTable) (i j : ℕ) (old : Reading) (e : Cause) → t.refs ≡ 2 → decision_read REFERENCE_2 old ≡ Err e → read_coded (second_use t i j) old ≡ Err e
+second_refused t i j old e two shut =
+    let P : Bool → Type 0 = λ b. read_coded (if b then decide REFERENCE_2 (λ x. done (differ x (predicted mode_of (ref2_at t) i j))) else done false) old ≡ Err e in
+    subst P (sym (eq-eqb t.refs 2 two)) (rw shut refl)
+
+-- which references a unit uses, as it is written
+pub first_told : (t : BlockTable) (i j : ℕ) (bit : Bool) (old new : Interval) → (t.refs ≡ 2 → ⊥) → bit ≡ differ (block_at t i j).ref1 (predicted mode_of (ref1_at t) i j) → new ≡ narrowed old (REFERENCE_1, bit)
+    → new ≡ narrowed_by old (mode_part t i j)
+first_told t i j bit old new one is written =
+    let P : Bool → Type 0 = λ b.
+    new ≡ narrowed_by (narrowed old (REFERENCE_1, differ (block_at t i j).ref1 (predicted mode_of (ref1_at t) i j))) (if b then (REFERENCE_2, differ (block_at t i j).ref2 (predicted mode_of (ref2_at t) i j)) ∷ [] else []) in
+    subst P (sym (ne_eqb t.refs 2 one)) (written ∙ ap (λ (b : Bool). narrowed old (REFERENCE_1, b)) is)
+
+pub both_told : (t : BlockTable) (i j : ℕ) (bit bit' : Bool) (old mid new : Interval) → t.refs ≡ 2
+    → bit ≡ differ (block_at t i j).ref1 (predicted mode_of (ref1_at t) i j) → bit' ≡ differ (block_at t i j).ref2 (predicted mode_of (ref2_at t) i j)
+    → mid ≡ narrowed old (REFERENCE_1, bit) → new ≡ narrowed mid (REFERENCE_2, bit') → new ≡ narrowed_by old (mode_part t i j)
+both_told t i j bit bit' old mid new two is is' first second =
+    let P : Bool → Type 0 = λ b.
+    new ≡ narrowed_by (narrowed old (REFERENCE_1, differ (block_at t i j).ref1 (predicted mode_of (ref1_at t) i j))) (if b then (REFERENCE_2, differ (block_at t i j).ref2 (predicted mode_of (ref2_at t) i j)) ∷ [] else []) in
+    subst P (sym (eq-eqb t.refs 2 two))
+    (second ∙ ap₂ (λ (s : Interval) (b : Bool). narrowed s (REFERENCE_2, b)) (first ∙ ap (λ (b : Bool). narrowed old (REFERENCE_1, b)) is) is')

@@ -3,6 +3,7 @@ use Rattle.dirac_common.specs.declared.faults.Cause.TheVariants as causes
 use Rattle.dirac_common.specs.declared.faults.Cause.{Cause}
 use Rattle.dirac_arith.specs.Coded.{read_coded}
 use Rattle.dirac_arith.specs.Reading.{Reading}
+use Rattle.dirac_vectors.proofs.Means.{passed}
 use Rattle.dirac_vectors.specs.Neighbours.{IsShort}
 use Rattle.dirac_vectors.specs.Predictions.{dc_of}
 use Rattle.dirac_block_table.specs.declared.block.Block.{Block}
@@ -23,8 +24,8 @@ returns-in-Ok-clause-value c =
     let new = c.read_value.new.decoder in
     let p = predicted dc_of (dc_at k t) c.args.i c.args.j in
     let none : (b.ref1 || b.ref2) ≡ false = search rules in
-    let stored : to_z w32 (of_z w32 v) ≡ v = search rules in
-    let given : to_z w32 (of_z w32 c.predicted_dc-prediction.result) ≡ p = search rules in
+    let stored = passed v c.in-Ok.ensures.short in
+    let given : to_z w32 (of_z w32 c.predicted_dc-prediction.result) ≡ p = passed _ c.predicted_dc-prediction.ensures.short ∙ c.predicted_dc-prediction.ensures.value in
     let found : read_coded (value_coded causes.DcRange (34 ∷ 35 ∷ []) 36 37 p) old ≡ Ok (v, new) =
     subst (λ (q : ℤ). read_coded (value_coded causes.DcRange (34 ∷ 35 ∷ []) 36 37 q) old ≡ Ok (v, new)) given c.in-Ok.ensures.value in
     let put : c.set_dc.result ≡ with_dc k b v =
@@ -41,7 +42,7 @@ returns-in-Err-clause-value c =
     let old = c.args.decoder.now in
     let p = predicted dc_of (dc_at k t) c.args.i c.args.j in
     let none : (b.ref1 || b.ref2) ≡ false = search rules in
-    let given : to_z w32 (of_z w32 c.predicted_dc-prediction.result) ≡ p = search rules in
+    let given : to_z w32 (of_z w32 c.predicted_dc-prediction.result) ≡ p = passed _ c.predicted_dc-prediction.ensures.short ∙ c.predicted_dc-prediction.ensures.value in
     into_refused (is_dc b) b (with_dc k) (value_coded causes.DcRange (34 ∷ 35 ∷ []) 36 37 p) old c.in-Err.e (is_dc_from b none)
     (subst (λ (q : ℤ). read_coded (value_coded causes.DcRange (34 ∷ 35 ∷ []) 36 37 q) old ≡ Err c.in-Err.e) given c.in-Err.ensures.value)
 
@@ -52,7 +53,7 @@ returns-in-Ok-clause-block c =
     let b = c.at-block.result in
     let v = c.in-Ok.value in
     let none : (b.ref1 || b.ref2) ≡ false = search rules in
-    let stored : to_z w32 (of_z w32 v) ≡ v = search rules in
+    let stored = passed v c.in-Ok.ensures.short in
     let short : IsShort (to_z w32 (of_z w32 v)) = subst IsShort (sym stored) c.in-Ok.ensures.short in
     subst (IsBlock refs) (sym c.set_dc.ensures) (dc_lawful refs k b (to_z w32 (of_z w32 v)) c.at-block.ensures.block none short)
 
@@ -69,5 +70,4 @@ returns-then-block-clause-value c =
 
 pub read_value-requires-clause-prediction : goal.read_value-requires-clause-prediction
 read_value-requires-clause-prediction c =
-    let given : to_z w32 (of_z w32 c.predicted_dc-prediction.result) ≡ c.predicted_dc-prediction.result = search rules in
-    subst IsShort (sym given) c.predicted_dc-prediction.ensures.short
+    subst IsShort (sym (passed _ c.predicted_dc-prediction.ensures.short)) c.predicted_dc-prediction.ensures.short

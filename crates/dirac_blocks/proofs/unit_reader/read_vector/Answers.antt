@@ -1,7 +1,8 @@
-use Rattle.std.proofs.Common.{rules, ◌≡◌, ℤ, Result, true, false, ap, ◌∙◌, subst, sym, to_z, of_z, w32, Ok, Err}
+use Rattle.std.proofs.Common.{◌≡◌, ℤ, Result, true, false, ap, ◌∙◌, subst, sym, to_z, of_z, w32, Ok, Err}
 use Rattle.dirac_common.specs.declared.faults.Cause.{Cause}
 use Rattle.dirac_arith.specs.Coded.{Coded, read_coded}
 use Rattle.dirac_arith.specs.Reading.{Reading}
+use Rattle.dirac_vectors.proofs.Means.{passed}
 use Rattle.dirac_vectors.specs.Neighbours.{IsShort}
 use Rattle.dirac_vectors.specs.Predictions.{vector_of}
 use Rattle.dirac_block_table.specs.declared.block.Block.{Block}
@@ -22,9 +23,9 @@ returns-in-Ok-clause-value c =
     let old = c.args.decoder.now in
     let new = c.read_value.new.decoder in
     let p = component_along a (predicted vector_of (vector_at k t) c.args.i c.args.j) in
-    let used : uses k b ≡ true = search rules in
-    let stored : to_z w32 (of_z w32 v) ≡ v = search rules in
-    let given : to_z w32 (of_z w32 c.component-prediction.result) ≡ p = search rules in
+    let used : uses k b ≡ true = ap (uses k) (sym c.at-block.ensures.value) ∙ sym c.has_reference.ensures ∙ c.if-not-has_reference.false in
+    let stored = passed v c.in-Ok.ensures.short in
+    let given : to_z w32 (of_z w32 c.component-prediction.result) ≡ p = passed _ c.component-prediction.ensures.short ∙ c.component-prediction.ensures.value ∙ ap (component_along a) c.predicted_vector.ensures.value in
     let found : read_coded (component_coded p) old ≡ Ok (v, new) = subst (λ (q : ℤ). read_coded (component_coded q) old ≡ Ok (v, new)) given c.in-Ok.ensures.value in
     let put : c.set_component.result ≡ with_component a k b v =
     c.set_component.ensures ∙ ap (λ (x : Block). with_component a k x (to_z w32 (of_z w32 v))) c.at-block.ensures.value ∙ ap (λ (w : ℤ). with_component a k b w) stored in
@@ -40,8 +41,8 @@ returns-in-Err-clause-value c =
     let b = block_at t c.args.i c.args.j in
     let old = c.args.decoder.now in
     let p = component_along a (predicted vector_of (vector_at k t) c.args.i c.args.j) in
-    let used : uses k b ≡ true = search rules in
-    let given : to_z w32 (of_z w32 c.component-prediction.result) ≡ p = search rules in
+    let used : uses k b ≡ true = ap (uses k) (sym c.at-block.ensures.value) ∙ sym c.has_reference.ensures ∙ c.if-not-has_reference.false in
+    let given : to_z w32 (of_z w32 c.component-prediction.result) ≡ p = passed _ c.component-prediction.ensures.short ∙ c.component-prediction.ensures.value ∙ ap (component_along a) c.predicted_vector.ensures.value in
     ap (λ (s : Coded Block). read_coded s old) (component_is a k t c.args.i c.args.j)
     ∙ into_refused (uses k b) b (with_component a k) (component_coded p) old c.in-Err.e used
     (subst (λ (q : ℤ). read_coded (component_coded q) old ≡ Err c.in-Err.e) given c.in-Err.ensures.value)
@@ -53,8 +54,8 @@ returns-in-Ok-clause-block c =
     let k = c.args.reference in
     let b = c.at-block.result in
     let v = c.in-Ok.value in
-    let used : uses k b ≡ true = search rules in
-    let stored : to_z w32 (of_z w32 v) ≡ v = search rules in
+    let used : uses k b ≡ true = sym c.has_reference.ensures ∙ c.if-not-has_reference.false in
+    let stored = passed v c.in-Ok.ensures.short in
     let short : IsShort (to_z w32 (of_z w32 v)) = subst IsShort (sym stored) c.in-Ok.ensures.short in
     subst (IsBlock refs) (sym c.set_component.ensures) (component_lawful refs a k b (to_z w32 (of_z w32 v)) c.at-block.ensures.block used short)
 
@@ -66,7 +67,7 @@ returns-then-not-has_reference-clause-value c =
     let b = block_at t c.args.i c.args.j in
     let old = c.args.decoder.now in
     let p = component_along a (predicted vector_of (vector_at k t) c.args.i c.args.j) in
-    let unused : uses k b ≡ false = search rules in
+    let unused : uses k b ≡ false = ap (uses k) (sym c.at-block.ensures.value) ∙ sym c.has_reference.ensures ∙ c.if-not-has_reference.true in
     ap (λ (s : Coded Block). read_coded s old) (component_is a k t c.args.i c.args.j)
     ∙ into_none (uses k b) b (with_component a k) (component_coded p) old unused
     ∙ ap (λ (x : Block). let q : Result (Block × Reading) Cause = Ok (x, old) in q) (sym c.at-block.ensures.value)

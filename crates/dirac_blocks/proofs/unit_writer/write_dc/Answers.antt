@@ -1,7 +1,8 @@
-use Rattle.std.proofs.Common.{rules, ◌≡◌, ◌-ℤ◌, ℤ, List, [], ◌∷◌, Some, None, ap, ap₂, sym, ◌∙◌, to_z, of_z, w32}
+use Rattle.std.proofs.Common.{◌≡◌, ◌-ℤ◌, ℤ, List, [], ◌∷◌, Some, None, refl, ap, ap₂, sym, ◌∙◌, to_z, of_z, w32}
 use Rattle.std.proofs.lemmas.Result.{on_ok_weaker}
 use Rattle.dirac_arith.specs.Interval.{Decision, narrowed_by}
 use Rattle.dirac_arith.specs.Spelling.{signed_spelling}
+use Rattle.dirac_vectors.proofs.Means.{passed}
 use Rattle.dirac_vectors.specs.Predictions.{dc_of}
 use Rattle.dirac_blocks.specs.Decisions.{predicted}
 use Rattle.dirac_blocks.specs.Parts.{dc_at}
@@ -20,8 +21,8 @@ returns-in-Some c =
     let t = c.args.table.now in
     let v = c.in-Some.value in
     let p = predicted dc_of (dc_at c.args.component t) c.args.i c.args.j in
-    let given : to_z w32 (of_z w32 c.predicted_dc-prediction.result) ≡ p = search rules in
-    let value : to_z w32 (of_z w32 v) ≡ v = search rules in
+    let given : to_z w32 (of_z w32 c.predicted_dc-prediction.result) ≡ p = passed _ c.predicted_dc-prediction.ensures.short ∙ c.predicted_dc-prediction.ensures.value in
+    let value = passed v (c.in-Some.ensures.short v refl) in
     let some : dc_at c.args.component t c.args.i c.args.j ≡ Some v = sym c.dc.ensures.value ∙ c.in-Some.is in
     let written = ap₂ (λ (w q : ℤ). signed_spelling (34 ∷ 35 ∷ []) 36 37 (w -ℤ q)) value given ∙ some_told (34 ∷ 35 ∷ []) 36 37 p v _ some in
     on_ok_weaker c.write_less.result (λ e. e ∙ ap (λ (ds : List Decision). narrowed_by c.args.encoder.now ds) written) c.write_less.ensures

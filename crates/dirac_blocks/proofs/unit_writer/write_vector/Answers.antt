@@ -1,9 +1,10 @@
-use Rattle.std.proofs.Common.{rules, ◌≡◌, ◌-ℤ◌, ℤ, List, [], ◌∷◌, Option, Some, None, ap, ap₂, sym, ◌∙◌, to_z, of_z, w32}
+use Rattle.std.proofs.Common.{◌≡◌, ◌-ℤ◌, ℤ, List, [], ◌∷◌, Option, Some, None, ap, ap₂, sym, ◌∙◌, to_z, of_z, w32}
 use Rattle.std.specs.Prelude.{option_map}
 use Rattle.std.proofs.lemmas.Result.{on_ok_weaker}
 use Rattle.dirac_common.specs.declared.formats.Vector.{Vector}
 use Rattle.dirac_arith.specs.Interval.{Decision, narrowed_by}
 use Rattle.dirac_arith.specs.Spelling.{signed_spelling}
+use Rattle.dirac_vectors.proofs.Means.{passed}
 use Rattle.dirac_vectors.specs.Predictions.{vector_of}
 use Rattle.dirac_blocks.specs.Decisions.{predicted}
 use Rattle.dirac_blocks.specs.Parts.{component_along, vector_at}
@@ -27,8 +28,8 @@ returns-in-Some c =
     let k = c.args.reference in
     let v = component_along a c.in-Some.v in
     let p = component_along a (predicted vector_of (vector_at k t) c.args.i c.args.j) in
-    let given : to_z w32 (of_z w32 c.component-prediction.result) ≡ p = search rules in
-    let value : to_z w32 (of_z w32 c.component.result) ≡ v = search rules in
+    let given : to_z w32 (of_z w32 c.component-prediction.result) ≡ p = passed _ c.component-prediction.ensures.short ∙ c.component-prediction.ensures.value ∙ ap (component_along a) c.predicted_vector.ensures.value in
+    let value : to_z w32 (of_z w32 c.component.result) ≡ v = passed _ c.component.ensures.short ∙ c.component.ensures.value in
     let some : vector_at k t c.args.i c.args.j ≡ Some c.in-Some.v = sym c.vector.ensures.value ∙ c.in-Some.is in
     let told = some_told (27 ∷ 28 ∷ 29 ∷ 30 ∷ 31 ∷ []) 32 33 p v _ (ap (λ (o : Option Vector). option_map (component_along a) o) some) in
     let written = ap₂ (λ (w q : ℤ). signed_spelling (27 ∷ 28 ∷ 29 ∷ 30 ∷ 31 ∷ []) 32 33 (w -ℤ q)) value given ∙ told ∙ sym (component_told a k t c.args.i c.args.j) in
