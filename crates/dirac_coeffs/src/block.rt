@@ -89,7 +89,7 @@ fn read_as(
     requires index { IsIndex frame.index }
     ensures value { GivesNarrow frame.entry.layout at result
         (band_read frame.entry.layout (numbers_in frame.entry.parent) frame.entry.index block.now) }
-    ensures some { wide ≡ true → IfOk result (λ found. found ≡ None → ⊥) }
+    ensures wide_is_found { wide ≡ true → IfOk result (λ found. found ≡ None → ⊥) }
 {
     let values = zeros(alloc, frame.layout, wide)?;
     let indices = equal_indices(alloc, frame.layout, frame.index)?;

@@ -19,15 +19,15 @@ pub returns-in-Ok-clause-value : goal.returns-in-Ok-clause-value
 returns-in-Ok-clause-value c =
     block_held c.args.frame.layout c.args.at c.held_block.result (content_in c.read_content.new.filling) (band_read c.args.frame.layout (numbers_in c.args.frame.parent) c.args.frame.index c.args.block.now) c.held_block.ensures c.in-Ok.ensures.value
 
-pub returns-in-Ok-clause-some : goal.returns-in-Ok-clause-some
-returns-in-Ok-clause-some c = λ wide. some_held c.args.frame.layout c.held_block.result (content_in c.read_content.new.filling) c.held_block.ensures
+pub returns-in-Ok-clause-wide_is_found : goal.returns-in-Ok-clause-wide_is_found
+returns-in-Ok-clause-wide_is_found c = λ wide. some_held c.args.frame.layout c.held_block.result (content_in c.read_content.new.filling) c.held_block.ensures
 
 pub returns-in-Err-clause-value : goal.returns-in-Err-clause-value
 returns-in-Err-clause-value c =
     rw c.stopped.ensures (block_stopped c.args.frame.layout c.args.at (IsNarrow c.read_content.new.filling.values) c.in-Err.unread (band_read c.args.frame.layout (numbers_in c.args.frame.parent) c.args.frame.index c.args.block.now) c.in-Err.ensures.value)
 
-pub returns-in-Err-clause-some : goal.returns-in-Err-clause-some
-returns-in-Err-clause-some c = λ wide.
+pub returns-in-Err-clause-wide_is_found : goal.returns-in-Err-clause-wide_is_found
+returns-in-Err-clause-wide_is_found c = λ wide.
     rw c.stopped.ensures (some_stopped c.args.at (IsNarrow c.read_content.new.filling.values) c.in-Err.unread (band_read c.args.frame.layout (numbers_in c.args.frame.parent) c.args.frame.index c.args.block.now) c.in-Err.ensures.value (λ n. c.in_ok-values.ensures.wide wide (c.read_content.ensures.narrow n)))
 
 pub equal_indices-requires : goal.equal_indices-requires
