@@ -1,5 +1,5 @@
 -- What an encoder has written, and that it is read back.
-use Rattle.std.proofs.Common.{◌≡◌, ℕ, zero, suc, ℤ, pos, negsuc, ◌+◌, ◌-◌, ◌+ℤ◌, ◌-ℤ◌, ◌<◌, min, Bool, true, false, List, [], ◌∷◌, ◌++◌, ◌&&◌, length, Ok, arith, lit<, refl, ap, sym, ◌∙◌}
+use Rattle.std.proofs.Common.{◌≡◌, ℕ, zero, suc, ℤ, pos, negsuc, ◌+◌, ◌-◌, ◌+ℤ◌, ◌-ℤ◌, ◌^◌, ◌<◌, min, Bool, true, false, List, [], ◌∷◌, ◌++◌, ◌&&◌, length, unsigned_abs, Ok, arith, lit<, refl, ap, sym, ◌∙◌}
 use Rattle.std.proofs.lemmas.Int.{ints}
 use Rattle.std.specs.List.{AllByRecursion}
 use Rattle.std.proofs.lemmas.List.Elements.{All-from_recursion}
@@ -99,6 +99,10 @@ offset_written s (suc mode) other same = ap (λ x. narrowed_by s (signed_spellin
 pub no_offset_written : (s : Interval) (mode : ℕ) (v : ℤ) → mode ≡ 0 → s ≡ narrowed_by s (offset_part mode v)
 no_offset_written s zero v none = refl
 no_offset_written s (suc mode) v none = absurd (omega arith)
+
+-- what leads from an index to another can be spelt
+pub difference_small : (a b : ℕ) → a < 2 ^ 8 → b < 2 ^ 8 → unsigned_abs (pos a -ℤ pos b) < 2 ^ 39 - 1
+difference_small a b h k = grind (arith, ints)
 
 difference_sums : (a b : ℕ) → pos a ≡ pos b +ℤ (pos a -ℤ pos b)
 difference_sums a b = omega (arith, ints)

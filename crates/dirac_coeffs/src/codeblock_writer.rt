@@ -65,10 +65,7 @@ fn write_codeblocks(encoder: &mut Encoder, band: WrittenBand<'_>, cy: u32) -> Re
             row: cy,
             column: cx,
         };
-        match write_codeblock(encoder, band, codeblock) {
-            Ok(()) => {}
-            Err(e) => return Err(e),
-        }
+        write_codeblock(encoder, band, codeblock)?;
     }
     Ok(())
 }
@@ -80,10 +77,7 @@ pub fn write_all(encoder: &mut Encoder, band: WrittenBand<'_>) -> Result<(), NoM
         (rows_of_blocks band.entry band.entry.layout.down)) }
 {
     'down: for cy in 0..band.layout.down {
-        match write_codeblocks(encoder, band, cy) {
-            Ok(()) => {}
-            Err(e) => return Err(e),
-        }
+        write_codeblocks(encoder, band, cy)?;
     }
     Ok(())
 }

@@ -166,7 +166,6 @@ pub fn read_all(
         frame.entry.layout.down (content_in filling.old)) decoder.old) }
     ensures len { length (values_in filling.new.values) ≡ length (values_in filling.old.values) }
     ensures narrow { IsNarrow filling.new.values → IsNarrow filling.old.values }
-    ensures count { length filling.new.indices ≡ length filling.old.indices }
 {
     'down: for cy in 0..frame.layout.down {
         match read_codeblocks(decoder, filling, frame, cy) {

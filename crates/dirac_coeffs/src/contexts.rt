@@ -12,14 +12,6 @@ use dirac_arith::{
 };
 use dirac_common::{Band, LARGEST_TABLE_SIDE};
 
-/// The values beside a coefficient by which its contexts are chosen, 0 outside the band.
-#[derive(Clone, Copy)]
-pub struct Neighbours {
-    pub left: i64,
-    pub above: i64,
-    pub corner: i64,
-}
-
 /// The value to the left, 0 in the first column.
 #[inline(always)]
 pub fn left_value(values: Numbers<'_>, width: usize, x: usize, y: usize) -> i64
@@ -67,24 +59,6 @@ pub fn corner_value(values: Numbers<'_>, width: usize, x: usize, y: usize) -> i6
         0
     } else {
         number_at(values, (y - 1) * width + (x - 1))
-    }
-}
-
-/// All three.
-#[inline(always)]
-pub fn neighbours_at(values: Numbers<'_>, width: usize, x: usize, y: usize) -> Neighbours
-    requires column { x < width }
-    requires width { width ≤ LARGEST_TABLE_SIDE }
-    requires row { y < LARGEST_TABLE_SIDE }
-    requires inside { (y + 1) * width ≤ length (numbers_in values) }
-    ensures left { result.left ≡ value_left_of width (numbers_in values.entry) x y }
-    ensures above { result.above ≡ value_above width (numbers_in values.entry) x y }
-    ensures corner { result.corner ≡ value_in_corner width (numbers_in values.entry) x y }
-{
-    Neighbours {
-        left: left_value(values, width, x, y),
-        above: above_value(values, width, x, y),
-        corner: corner_value(values, width, x, y),
     }
 }
 

@@ -26,7 +26,6 @@ pub fn codeblock_span(size: u32, count: u32, c: u32) -> Span
     requires c { c < count }
     ensures start { result.start ≡ edge_of size count c }
     ensures length { result.length ≡ layouts.codeblock_extent size count c }
-    ensures end { result.start + result.length ≡ edge_of size count (c + 1) }
     ensures inside { result.start + result.length ≤ size }
 {
     let start = edge(size, count, c);

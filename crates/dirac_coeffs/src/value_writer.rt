@@ -204,10 +204,7 @@ pub fn write_block_values(
     let columns = codeblock_span(layout.width, layout.across, codeblock.column);
     let rows = codeblock_span(layout.height, layout.down, codeblock.row);
     'rows: for j in 0..rows.length {
-        match write_row(encoder, band, rows.start + j, columns) {
-            Ok(()) => {}
-            Err(e) => return Err(e),
-        }
+        write_row(encoder, band, rows.start + j, columns)?;
     }
     Ok(())
 }

@@ -6,7 +6,6 @@ ghost use Rattle.dirac_coeffs.specs.Decisions.{frame_of};
 ghost use Rattle.dirac_coeffs.specs.Lent.{numbers_in};
 
 use crate::contexts;
-use crate::contexts::Neighbours;
 use crate::layout::BandLayout;
 use crate::numbers::Numbers;
 use crate::spans::Span;
@@ -35,11 +34,9 @@ fn read_wide_value(
     ensures few_doublings { decoder.new.at.doublings ≤ decoder.old.at.doublings + 702 }
 {
     let width = layout.width as usize;
-    let Neighbours {
-        left,
-        above,
-        corner,
-    } = contexts::neighbours_at(Numbers::Wide(values), width, x, y);
+    let left = contexts::left_value(Numbers::Wide(values), width, x, y);
+    let above = contexts::above_value(Numbers::Wide(values), width, x, y);
+    let corner = contexts::corner_value(Numbers::Wide(values), width, x, y);
     let parent = contexts::parent_value(parent, width, x, y);
     let follow = contexts::follow_among(left, above, corner, parent);
     let sign = contexts::sign_context(layout.band, left, above);

@@ -51,3 +51,12 @@ returns-else-are_zeros-clause-spelled c =
 pub returns-in-Err-clause-front : goal.returns-in-Err-clause-front
 returns-in-Err-clause-front c =
     gap_alone c.args.layout (values_of_parent c.args.parent) c.args.band.now (none_stand (gap c.args.w.now) c.in-Err.ensures.err)
+
+pub write_coded-requires-clause-layout : goal.write_coded-requires-clause-layout
+write_coded-requires-clause-layout c = c.requires.layout
+
+pub write_coded-requires-clause-band : goal.write_coded-requires-clause-band
+write_coded-requires-clause-band c = c.requires.band
+
+pub write_coded-requires-clause-indices : goal.write_coded-requires-clause-indices
+write_coded-requires-clause-indices c = c.requires.indices

@@ -1,3 +1,4 @@
+use Rattle.dirac_coeffs.specs.Carried.{AreLawful}
 use Rattle.std.proofs.Common.{◌≡◌, ◌+◌, ◌<◌, ◌^◌, ℕ, ℤ, List, length, refl, sym, ap, subst, ◌∙◌}
 use Rattle.std.proofs.lemmas.Result.{on_ok_weaker}
 use Rattle.dirac_bits.specs.Fronts.{HoldsFront}
@@ -41,3 +42,12 @@ returns-in-Ok-clause-front c =
     let block : c.as_slice.result.now ≡ block_of c.args.layout parent b.index b.table.values b.indices =
     c.as_slice.ensures.value ∙ c.in-Ok.ensures.exact ∙ ap (λ xs. block_of c.args.layout parent b.index xs b.indices) c.numbers.ensures in
     err_so c.write_indexed.result (λ holds. subst (λ (l : List ℕ). HoldsFront c.args.w.now c.write_indexed.new.w (with_band_block b.index l c.args.w.now)) block holds) c.write_indexed.ensures.front
+
+pub write_below-requires-clause-layout : goal.write_below-requires-clause-layout
+write_below-requires-clause-layout c = c.requires.layout
+
+pub write_below-requires-clause-lawful : goal.write_below-requires-clause-lawful
+write_below-requires-clause-lawful c =
+    let b = c.args.band.now in
+    let is = c.requires.band in
+    subst (λ (xs : List ℤ). AreLawful c.args.layout b.index xs b.indices) (sym c.numbers.ensures) (record { len = is.len; small = is.small; count = is.count; own = is.index; each = is.each })

@@ -21,3 +21,6 @@ returns-clause-len c = c.read_all.ensures.len ∙ ap (λ (l : List ℤ). length 
 
 pub returns-clause-narrow : goal.returns-clause-narrow
 returns-clause-narrow c = c.read_all.ensures.narrow
+
+pub read_all-requires-clause-layout : goal.read_all-requires-clause-layout
+read_all-requires-clause-layout c = c.requires.layout

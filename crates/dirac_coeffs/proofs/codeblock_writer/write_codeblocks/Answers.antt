@@ -1,4 +1,5 @@
-use Rattle.std.proofs.Common.{refl}
+use Rattle.dirac_arith.specs.Interval.{narrowed_by}
+use Rattle.std.proofs.Common.{refl, ◌≡◌, ℕ, arith, subst}
 use Rattle.dirac_arith.proofs.Spellings.{narrowed_more}
 use Rattle.dirac_coeffs.specs.Decisions.{blocks_part}
 use Rattle.dirac_coeffs.specs.Lent.{numbers_in}
@@ -15,10 +16,18 @@ across-preserved c =
     let band = c.args.band in
     let cy = c.args.cy in
     let n = c.across.cx in
-    narrowed_more _ _ _ (blocks_of_row band cy n) (whole_block band cy n) _ c.across.invariant c.in-Ok.ensures (blocks_next band.layout (numbers_in band.parent) (numbers_in band.values) (marks_in band cy) cy n)
+    narrowed_more _ _ _ (blocks_of_row band cy n) (whole_block band cy n) _ c.across.invariant c.in_ok-write_codeblock.ensures (blocks_next band.layout (numbers_in band.parent) (numbers_in band.values) (marks_in band cy) cy n)
 
 pub write_codeblock-requires-clause-writable : goal.write_codeblock-requires-clause-writable
 write_codeblock-requires-clause-writable c = c.requires.writable
 
 pub write_codeblock-requires-clause-row : goal.write_codeblock-requires-clause-row
 write_codeblock-requires-clause-row c = c.requires.row
+
+pub write_codeblock-requires-clause-column : goal.write_codeblock-requires-clause-column
+write_codeblock-requires-clause-column c = omega arith
+
+pub returns : goal.returns
+returns c =
+    let all : c.across.cx ≡ c.args.band.layout.across = omega (arith, c.across.auto.cx-end) in
+    subst (λ (n : ℕ). c.across.encoder ≡ narrowed_by c.args.encoder.now (blocks_of_row c.args.band c.args.cy n)) all c.across.invariant

@@ -1,6 +1,7 @@
-use Rattle.std.proofs.Common.{◌∙◌, arith, refl}
+use Rattle.dirac_arith.specs.Coded.{read_coded}
+use Rattle.std.proofs.Common.{◌∙◌, arith, refl, ◌≡◌, ℕ, Ok, subst}
 use Rattle.dirac_arith.proofs.CodedValues.{repeated_none, repeated_next}
-use Rattle.dirac_coeffs.specs.BandRead.{blocks_step}
+use Rattle.dirac_coeffs.specs.BandRead.{blocks_step, block_rows_step}
 use Rattle.dirac_coeffs.specs.Lent.{IsNarrow, content_in, numbers_in}
 use Rattle.dirac_coeffs.proofs.Steps.{repeated_unread}
 use Rattle.dirac_coeffs.proofs.codeblocks.read_all.Goals as goal
@@ -45,14 +46,20 @@ returns-in-Err-clause-len c = c.read_codeblocks.ensures.len ∙ c.down.invariant
 pub returns-in-Err-clause-narrow : goal.returns-in-Err-clause-narrow
 returns-in-Err-clause-narrow c = λ n. c.down.invariant.narrow (c.read_codeblocks.ensures.narrow n)
 
-pub returns-in-Err-clause-count : goal.returns-in-Err-clause-count
-returns-in-Err-clause-count c = c.read_codeblocks.ensures.count ∙ c.down.invariant.count
-
 pub returns-clause-len : goal.returns-clause-len
 returns-clause-len c = c.down.invariant.len
 
 pub returns-clause-narrow : goal.returns-clause-narrow
 returns-clause-narrow c = c.down.invariant.narrow
 
-pub returns-clause-count : goal.returns-clause-count
-returns-clause-count c = c.down.invariant.count
+pub read_codeblocks-requires-clause-row : goal.read_codeblocks-requires-clause-row
+read_codeblocks-requires-clause-row c = omega arith
+
+pub read_codeblocks-requires-clause-no_overflow : goal.read_codeblocks-requires-clause-no_overflow
+read_codeblocks-requires-clause-no_overflow c = omega (arith, c.down.invariant.few_doublings, c.requires.layout.down)
+
+pub returns-clause-value : goal.returns-clause-value
+returns-clause-value c =
+    let all : c.down.cy ≡ c.args.frame.layout.down = omega (arith, c.down.auto.cy-end) in
+    let P : ℕ → Type 0 = λ n. read_coded (block_rows_step c.args.frame.layout (numbers_in c.args.frame.parent) c.args.frame.index n (content_in c.args.filling.now)) c.args.decoder.now ≡ Ok (content_in c.down.filling, c.down.decoder) in
+    subst P all c.down.invariant.value

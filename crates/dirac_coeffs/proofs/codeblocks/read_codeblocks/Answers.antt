@@ -1,6 +1,7 @@
-use Rattle.std.proofs.Common.{◌+◌, ◌∙◌, arith, refl}
+use Rattle.dirac_arith.specs.Coded.{read_coded}
+use Rattle.std.proofs.Common.{◌+◌, ◌∙◌, arith, refl, ◌≡◌, ℕ, Ok, subst}
 use Rattle.dirac_arith.proofs.CodedValues.{repeated_none, repeated_next}
-use Rattle.dirac_coeffs.specs.BandRead.{block_step}
+use Rattle.dirac_coeffs.specs.BandRead.{block_step, blocks_step}
 use Rattle.dirac_coeffs.specs.Lent.{IsNarrow, content_in, numbers_in}
 use Rattle.dirac_coeffs.proofs.Edges.{edge_most, span_end}
 use Rattle.dirac_coeffs.proofs.Steps.{repeated_unread}
@@ -75,3 +76,9 @@ read_codeblock-requires-clause-no_overflow c = omega (arith, c.across.invariant.
 
 pub read_codeblock-requires-clause-column : goal.read_codeblock-requires-clause-column
 read_codeblock-requires-clause-column c = omega arith
+
+pub returns-clause-value : goal.returns-clause-value
+returns-clause-value c =
+    let all : c.across.cx ≡ c.args.frame.layout.across = omega (arith, c.across.auto.cx-end) in
+    let P : ℕ → Type 0 = λ n. read_coded (blocks_step c.args.frame.layout (numbers_in c.args.frame.parent) c.args.frame.index c.args.cy n (content_in c.args.filling.now)) c.args.decoder.now ≡ Ok (content_in c.across.filling, c.across.decoder) in
+    subst P all c.across.invariant.value

@@ -1,4 +1,5 @@
 use Rattle.std.proofs.Common.{rules, ◌≡◌, ◌<◌, ap, length, of_z, pos, slice_index_or, subst, sym, to_z, w32, w64, ◌∙◌}
+use Rattle.std.proofs.lemmas.Int.{to_z-of_z}
 use Rattle.dirac_coeffs.specs.declared.numbers.Numbers.{Numbers}
 use Rattle.dirac_coeffs.specs.Lent.{numbers_in}
 use Rattle.dirac_coeffs.proofs.NoParent.{zeros_at}
@@ -16,7 +17,7 @@ returns-in-Zeros c = sym (ap (λ (n : Numbers). slice_index_or (numbers_in n) c.
 pub returns-in-Narrow : goal.returns-in-Narrow
 returns-in-Narrow c =
     let v = slice_index_or c.in-Narrow.list.now c.args.place (pos 0) in
-    let wide : to_z w64 (of_z w64 c.from.result) ≡ c.from.result = search rules in
+    let wide : to_z w64 (of_z w64 c.from.result) ≡ c.from.result = to_z-of_z w64 _ (record { sfits = c.from.type_inv }) in
     let fits : to_z w32 (of_z w32 v) ≡ v = search rules in
     wide ∙ c.from.ensures ∙ fits ∙ sym (ap (λ (n : Numbers). slice_index_or (numbers_in n) c.args.place (pos 0)) c.in-Narrow.is)
 

@@ -1,4 +1,4 @@
-use Rattle.std.proofs.Common.{◌≡◌, ◌-ℤ◌, ℕ, ap, ap₂, of_z, pos, to_z, w64, ◌∙◌}
+use Rattle.std.proofs.Common.{◌≡◌, ◌-ℤ◌, ℕ, ap, ap₂, of_z, pos, to_z, w64, ◌∙◌, arith}
 use Rattle.std.proofs.lemmas.Int.{to_z-of_z}
 use Rattle.std.proofs.lemmas.Result.{on_ok_weaker}
 use Rattle.dirac_coeffs.specs.Indices.{index_at, index_before, place_of}
@@ -20,3 +20,18 @@ returns c =
     let offset : to_z w64 (of_z w64 c.difference_of-offset.result) ≡ c.difference_of-offset.result = to_z-of_z w64 _ (record { sfits = c.difference_of-offset.type_inv }) in
     let both = ap₂ (λ (a b : ℕ). pos a -ℤ pos b) (c.at.ensures ∙ ap (λ (p : ℕ). index_at indices p) place) (c.former_index.ensures ∙ ap (λ (p : ℕ). index_before c.args.band.index indices p) place) in
     on_ok_weaker c.signed.result (λ e. e ∙ offset_written c.args.encoder.now c.args.band.layout.mode c.if-band-eq0.false (offset ∙ c.difference_of-offset.ensures.value ∙ both)) c.signed.ensures
+
+pub codeblock_place-c-requires-clause-layout : goal.codeblock_place-c-requires-clause-layout
+codeblock_place-c-requires-clause-layout c = c.requires.writable.layout
+
+pub codeblock_place-c-requires-clause-row : goal.codeblock_place-c-requires-clause-row
+codeblock_place-c-requires-clause-row c = c.requires.row
+
+pub codeblock_place-c-requires-clause-column : goal.codeblock_place-c-requires-clause-column
+codeblock_place-c-requires-clause-column c = c.requires.column
+
+pub at-requires : goal.at-requires
+at-requires c = omega (arith, c.codeblock_place-c.ensures.inside, c.requires.writable.count)
+
+pub former_index-requires : goal.former_index-requires
+former_index-requires c = omega (arith, c.codeblock_place-c.ensures.inside, c.requires.writable.count)

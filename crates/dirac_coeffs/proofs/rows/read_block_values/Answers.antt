@@ -86,3 +86,6 @@ returns-clause-narrow c = c.rows.invariant.narrow
 
 pub returns-clause-few_doublings : goal.returns-clause-few_doublings
 returns-clause-few_doublings c = omega (arith, c.rows.invariant.few_doublings, c.codeblock_span-columns.ensures.length, mul-le c.rows.j c.codeblock_span-columns.result.length 8192 c.codeblock_span-columns.result.length (omega (arith, c.codeblock_span-rows.ensures.inside, c.requires.layout.height)) (omega arith))
+
+pub overflow_add-rows : goal.overflow_add-rows
+overflow_add-rows c = omega (arith, c.codeblock_span-rows.ensures.inside, c.requires.layout.height)

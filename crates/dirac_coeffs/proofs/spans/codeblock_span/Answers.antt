@@ -29,8 +29,5 @@ returns-clause-start c = c.edge-start.ensures.value
 pub returns-clause-length : goal.returns-clause-length
 returns-clause-length c = ap₂ (λ (a b : ℕ). a - b) c.edge-end.ensures.value c.edge-start.ensures.value
 
-pub returns-clause-end : goal.returns-clause-end
-returns-clause-end c = omega (arith, c.edge-start.ensures.value, c.edge-end.ensures.value, edge_rises c.args.size c.args.count c.args.c (c.args.c + 1) (omega (arith, c.requires.c)) (omega arith))
-
 pub returns-clause-inside : goal.returns-clause-inside
 returns-clause-inside c = omega (arith, c.edge-end.ensures.inside, c.edge-start.ensures.value, c.edge-end.ensures.value, edge_rises c.args.size c.args.count c.args.c (c.args.c + 1) (omega (arith, c.requires.c)) (omega arith))

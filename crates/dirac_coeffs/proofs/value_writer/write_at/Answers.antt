@@ -66,3 +66,6 @@ returns-in-Ok-clause-written c =
     let parent : to_z w64 (of_z w64 c.parent_value-parent.result) ≡ c.parent_value-parent.result = to_z-of_z w64 _ (record { sfits = c.parent_value-parent.type_inv }) in
     let value : to_z w64 (of_z w64 c.number_at-value.result) ≡ c.number_at-value.result = to_z-of_z w64 _ (record { sfits = c.number_at-value.type_inv }) in
     c.in-Ok.ensures ∙ same_value c.args.encoder.now c.args.layout.band (left ∙ c.requires.left) (above ∙ c.above_value-above.ensures) (corner ∙ c.requires.corner) (parent ∙ c.parent_value-parent.ensures) (value ∙ c.number_at-value.ensures)
+
+pub overflow_cast-width : goal.overflow_cast-width
+overflow_cast-width c = omega (arith, c.requires.width)

@@ -40,10 +40,13 @@ rows-preserved c =
     let from = c.codeblock_span-columns.result.start in
     let count = c.codeblock_span-columns.result.length in
     let j = c.rows.j in
-    narrowed_more _ _ _ (rows_part f xs from count top j) (row_part f xs (top + j) from count) _ c.rows.invariant c.in-Ok.ensures (rows_next f xs from count top j)
+    narrowed_more _ _ _ (rows_part f xs from count top j) (row_part f xs (top + j) from count) _ c.rows.invariant c.in_ok-write_row.ensures (rows_next f xs from count top j)
 
 pub returns : goal.returns
 returns c =
     let all : c.rows.j ≡ c.codeblock_span-rows.result.length = omega (arith, c.rows.auto.j-end) in
     let P : ℕ → Type 0 = λ n. c.rows.encoder ≡ narrowed_by c.args.encoder.now (rows_part (frame_in c.args.band) (numbers_in c.args.band.values) c.codeblock_span-columns.result.start c.codeblock_span-columns.result.length c.codeblock_span-rows.result.start n) in
     rw (sym c.codeblock_span-columns.ensures.length, sym c.codeblock_span-columns.ensures.start, sym c.codeblock_span-rows.ensures.length, sym c.codeblock_span-rows.ensures.start) (subst P all c.rows.invariant)
+
+pub overflow_add-rows : goal.overflow_add-rows
+overflow_add-rows c = omega (arith, c.codeblock_span-rows.ensures.inside, c.requires.writable.layout.height)

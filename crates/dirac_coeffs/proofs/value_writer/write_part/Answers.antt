@@ -1,4 +1,5 @@
-use Rattle.std.proofs.Common.{◌≡◌, ◌+◌, ◌∙◌, ap, arith, of_z, refl, to_z}
+use Rattle.dirac_arith.specs.Interval.{narrowed_by}
+use Rattle.std.proofs.Common.{◌≡◌, ◌+◌, ◌∙◌, ap, arith, of_z, refl, to_z, ℕ, subst}
 use Rattle.std.specs.Int.{w64}
 use Rattle.std.proofs.lemmas.Int.{to_z-of_z}
 use Rattle.dirac_arith.proofs.Spellings.{narrowed_more}
@@ -85,3 +86,12 @@ write_at-requires-clause-left c = c.values.invariant.left
 
 pub write_at-requires-clause-corner : goal.write_at-requires-clause-corner
 write_at-requires-clause-corner c = c.values.invariant.corner
+
+pub overflow_cast-width : goal.overflow_cast-width
+overflow_cast-width c = omega (arith, c.requires.width)
+
+pub returns : goal.returns
+returns c =
+    let all : c.values.i ≡ c.args.columns.length = omega (arith, c.values.auto.i-end) in
+    let P : ℕ → Type 0 = λ n. c.values.encoder ≡ narrowed_by c.args.encoder.now (row_part (frame_of c.args.layout (numbers_in c.args.parent)) (numbers_in c.args.values) c.args.y c.args.columns.start n) in
+    subst P all c.values.invariant.written

@@ -1,4 +1,5 @@
-use Rattle.std.proofs.Common.{◌≡◌, of_z, rules, to_z, w64, ◌∙◌}
+use Rattle.std.proofs.Common.{◌≡◌, of_z, to_z, w64, ◌∙◌}
+use Rattle.std.proofs.lemmas.Int.{to_z-of_z}
 use Rattle.std.proofs.lemmas.Result.{on_ok_weaker}
 use Rattle.dirac_arith.specs.Spelling.{follow_at}
 use Rattle.dirac_arith.proofs.Encodings.{zero_from}
@@ -10,9 +11,17 @@ pub returns-then-value-eq0 : goal.returns-then-value-eq0
 returns-then-value-eq0 c =
     let follow = follow_among c.args.left c.args.above c.args.corner c.args.parent in
     let sign = sign_of (sign_neighbour c.args.band c.args.left c.args.above) in
-    let parent : to_z w64 (of_z w64 c.args.parent) ≡ c.args.parent = search rules in
-    let left : to_z w64 (of_z w64 c.args.left) ≡ c.args.left = search rules in
-    let above : to_z w64 (of_z w64 c.args.above) ≡ c.args.above = search rules in
-    let corner : to_z w64 (of_z w64 c.args.corner) ≡ c.args.corner = search rules in
+    let parent : to_z w64 (of_z w64 c.args.parent) ≡ c.args.parent = to_z-of_z w64 _ c.ranges.parent in
+    let left : to_z w64 (of_z w64 c.args.left) ≡ c.args.left = to_z-of_z w64 _ c.ranges.left in
+    let above : to_z w64 (of_z w64 c.args.above) ≡ c.args.above = to_z-of_z w64 _ c.ranges.above in
+    let corner : to_z w64 (of_z w64 c.args.corner) ≡ c.args.corner = to_z-of_z w64 _ c.ranges.corner in
     let context : c.first_among-first.result ≡ follow_at follow 0 = rw (← parent, ← left, ← above, ← corner) c.first_among-first.ensures.value in
     on_ok_weaker c.decision.result (λ e. e ∙ zero_written c.args.encoder.now follow bits_context sign c.first_among-first.result c.args.value context (zero_from c.args.value c.if-value-eq0.true c.requires)) c.decision.ensures.taken
+
+pub decision-requires : goal.decision-requires
+decision-requires c = c.first_among-first.ensures.context
+
+pub write_number-requires : goal.write_number-requires
+write_number-requires c =
+    let value : to_z w64 (of_z w64 c.args.value) ≡ c.args.value = to_z-of_z w64 _ c.ranges.value in
+    rw value c.requires

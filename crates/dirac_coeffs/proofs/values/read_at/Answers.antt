@@ -106,3 +106,6 @@ returns-in-Err c =
           (rw (sym c.requires.left, sym above, sym c.requires.corner, sym parent) c.in-Err.ensures.refused);
       few_then = c.in-Err.ensures.few_then;
     }
+
+pub overflow_cast-width : goal.overflow_cast-width
+overflow_cast-width c = omega (arith, c.requires.width)

@@ -139,3 +139,6 @@ read_at-requires-clause-left c = c.values.invariant.left
 
 pub read_at-requires-clause-corner : goal.read_at-requires-clause-corner
 read_at-requires-clause-corner c = c.values.invariant.corner
+
+pub overflow_cast-layout : goal.overflow_cast-layout
+overflow_cast-layout c = omega (arith, c.requires.width)

@@ -1,6 +1,7 @@
-use Rattle.std.proofs.Common.{◌+◌, ◌∙◌, arith, refl}
+use Rattle.dirac_arith.specs.Coded.{read_coded}
+use Rattle.std.proofs.Common.{◌+◌, ◌∙◌, arith, refl, ◌≡◌, ℕ, Ok, subst}
 use Rattle.dirac_arith.proofs.CodedValues.{repeated_none, repeated_next, repeated_stops}
-use Rattle.dirac_coeffs.specs.BandRead.{value_step}
+use Rattle.dirac_coeffs.specs.BandRead.{value_step, row_step}
 use Rattle.dirac_coeffs.specs.Decisions.{frame_of}
 use Rattle.dirac_coeffs.specs.Lent.{numbers_in}
 use Rattle.dirac_coeffs.proofs.wide_values.read_wide_row.Goals as goal
@@ -49,3 +50,15 @@ returns-in-Err-clause-few_doublings c = omega (arith, c.values.invariant.few_dou
 
 pub returns-clause-len : goal.returns-clause-len
 returns-clause-len c = c.values.invariant.len
+
+pub overflow_add-columns : goal.overflow_add-columns
+overflow_add-columns c = omega (arith, c.requires.columns, c.requires.width)
+
+pub returns-clause-few_doublings : goal.returns-clause-few_doublings
+returns-clause-few_doublings c = omega (arith, c.values.invariant.few_doublings)
+
+pub returns-clause-value : goal.returns-clause-value
+returns-clause-value c =
+    let all : c.values.i ≡ c.args.columns.length = omega (arith, c.values.auto.i-end) in
+    let P : ℕ → Type 0 = λ n. read_coded (row_step (frame_of c.args.layout (numbers_in c.args.parent)) c.args.y c.args.columns.start n c.args.values.now) c.args.decoder.now ≡ Ok (c.values.values, c.values.decoder) in
+    subst P all c.values.invariant.value

@@ -36,3 +36,6 @@ returns-clause-zeros c = λ e i j l m. c.rows.invariant j (omega (arith, m, c.ro
 
 pub returns-clause-others : goal.returns-clause-others
 returns-clause-others c = λ e all. true≢false e
+
+pub overflow_add-rows : goal.overflow_add-rows
+overflow_add-rows c = omega (arith, c.requires.rows, c.rows-test.true)

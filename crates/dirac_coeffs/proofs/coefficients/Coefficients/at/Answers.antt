@@ -2,6 +2,7 @@ use Rattle.std.proofs.Common.{◌≡◌, ◌+◌, ◌*◌, pos, arith, ap, of_z,
 use Rattle.std.specs.Int.{w32, w64}
 use Rattle.std.proofs.lemmas.List.{get_or_read}
 use Rattle.dirac_common.specs.Table.{Table, table_at}
+use Rattle.std.proofs.lemmas.Int.{to_z-of_z}
 use Rattle.dirac_coeffs.specs.declared.coefficients.Held.{Held}
 use Rattle.dirac_coeffs.specs.Held.{IsHeld, held_table}
 use Rattle.dirac_coeffs.proofs.Largest.{held_inside}
@@ -44,5 +45,5 @@ returns-in-Narrow c =
     let same = sym (ap held_table c.in-Narrow.is) ∙ c.self.view_is in
     let place = held_inside rows c.args.self.now c.args.x c.args.y c.self.inside.largest same is c.requires.across c.requires.down in
     let fits : to_z w32 (of_z w32 c.index.result.now) ≡ c.index.result.now = search rules in
-    let wide : to_z w64 (of_z w64 c.from.result) ≡ c.from.result = search rules in
+    let wide : to_z w64 (of_z w64 c.from.result) ≡ c.from.result = to_z-of_z w64 _ (record { sfits = c.from.type_inv }) in
     wide ∙ c.from.ensures ∙ fits ∙ get_or_read rows.values.items _ _ place.0 c.index.ensures (pos 0) ∙ ap (λ (t : Table). table_at t c.args.x c.args.y) same
