@@ -3,6 +3,7 @@
 ghost use Rattle.std.specs.Prelude.{◌≡◌, ◌<◌, ◌≤◌, ◌+◌, ◌↔◌, true, false, length, take, drop, ◌++◌, slice_get, []};
 ghost use Rattle.std.specs.Prelude.{Some, OnOk, IfOk, IfErr, IsErr, IsNone, IfNone, IfSome};
 ghost use Rattle.std.specs.List.{remove};
+ghost use Rattle.std.specs.Option.{option_copied};
 ghost use Rattle.circular_buffer.specs.Buffer.{buffer};
 ghost use Rattle.dirac_types.specs.Settings.{IsAccepted};
 ghost use Rattle.dirac_plan.specs.Plan as plans;
@@ -71,6 +72,29 @@ impl Planner {
         ensures counts { self.now.accepted ≡ self.now.given + length self.now.waiting }
     {
         self.accepted
+    }
+
+    /// How many pictures wait.
+    pub fn waiting(&self) -> usize
+        ensures value { result ≡ length self.now.waiting }
+        ensures waiting_fit { result ≤ plannings.waiting_places self.now.settings }
+        ensures counts { self.now.accepted ≡ self.now.given + result }
+    {
+        self.queue.len()
+    }
+
+    /// Lends the picture at a place among those that wait; the oldest stands at place 0.
+    pub fn waiting_at(&self, place: usize) -> Option<&Picture>
+        ensures { option_copied result ≡ slice_get self.now.waiting place }
+    {
+        self.queue.get(place)
+    }
+
+    /// Whether `push` hands back any picture for now.
+    pub fn is_closed(&self) -> bool
+        ensures { result ≡ plannings.is_closed self.now }
+    {
+        self.queue.is_full() || must_be_taken_first(&self.settings, self.accepted, self.given)
     }
 
     /// Takes the next picture of the input. An `Err` hands it back: no place is free, or pictures between two anchors,
