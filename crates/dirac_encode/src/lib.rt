@@ -1,7 +1,10 @@
 //! The encoder: from raw pictures to the bytes of a stream, and the pictures that these bytes decode to.
 #![tactic(auto)]
 
+mod ahead;
 mod fitting;
+mod lot;
+mod same;
 mod shared;
 mod stream;
 

@@ -6,4 +6,5 @@ fn is_shared<T: Send + Sync>() {}
 /// Each of these types may be shared by threads and sent to them.
 fn are_shared() {
     is_shared::<crate::Coded>();
+    is_shared::<crate::ahead::CodedAhead>();
 }

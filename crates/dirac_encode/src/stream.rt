@@ -1,6 +1,6 @@
 //! A stream, encoded.
 
-ghost use Rattle.std.specs.Prelude.{◌≡◌, ◌≤◌, ℕ, List, [], length, IfSome, IfOk};
+ghost use Rattle.std.specs.Prelude.{◌≡◌, ◌≤◌, ◌<◌, ℕ, List, [], length, IfSome, IfOk, None};
 ghost use Rattle.std.specs.Io.KnownBytes.{IsAtEnd};
 ghost use Rattle.std.specs.Thread.{IsSync};
 ghost use Rattle.dirac_io.specs.Faults.{Rose};
@@ -13,9 +13,10 @@ ghost use Rattle.dirac_encode_laws.specs.Encoding.{encoding_under};
 ghost use Rattle.dirac_encode_laws.specs.Fit.{rule_of};
 ghost use Rattle.dirac_encode_laws.specs.Standing.{jobs_in};
 ghost use Rattle.dirac_encode_progress.specs.Alone.{WritesDue, WritesFrontOfRead};
-ghost use Rattle.dirac_encode_progress.specs.PictureCoding.{IsCodedUnder, IsReadyToCode};
+ghost use Rattle.dirac_encode_progress.specs.PictureCoding.{AreReadyBehind, IsCodedUnder, IsReadyToCode};
 
 use crate::fitting::fit_picture;
+use crate::lot::{Kept, coded_in_lot, lot_of};
 use dirac_common::{NoMemory, Picture, RowGate};
 use dirac_encode_laws::{Coded, Encoded, streams_show_their_pictures};
 use dirac_encode_picture::code_picture;
@@ -27,6 +28,7 @@ use dirac_sequence::write_sequence;
 use dirac_sources::raw_length;
 use dirac_types::Settings;
 use std::alloc::Global;
+use std::cell::Cell;
 use std::thread::Threads;
 
 /// Encodes raw pictures until the source ends: the stream goes to `out`, and the pictures that decoders show for it, in
@@ -123,6 +125,44 @@ fn code_picture_by<R: Threads + Sync, G: RowGate>(
     }
 }
 
+/// How many pictures are coded together; under a budget each is coded by itself.
+fn lot_by<R: Threads + Sync, G: RowGate>(coder: &StreamCoder<R, G>) -> usize
+    requires { IsAccepted coder.now.settings.now }
+    ensures { 1 < result → coder.now.budget ≡ None }
+{
+    match coder.budget {
+        None => lot_of(coder.settings),
+        Some(_) => 1,
+    }
+}
+
+/// Codes a planned picture, alone or together with those that wait behind it.
+fn code_picture_or_lot<R: Threads + Sync, G: RowGate>(
+    coder: &StreamCoder<R, G>,
+    kept: &Kept,
+    planned: &Planned,
+    source: &Picture,
+    refs: &RefBuffer,
+    behind: &Planner,
+) -> Result<Coded, NoMemory>
+    requires ready { IsReadyToCode coder.now.settings.now refs.now planned.now source.now }
+    requires behind { AreReadyBehind coder.now.settings.now behind.now }
+    ensures payload { IfOk result (λ c. c.payload.items
+        ≡ (made_under (rule_of coder.now.budget) coder.now.settings.now refs.now
+        (record { planned = planned.now; source = source.now })).payload) }
+    ensures shown { IfOk result (λ c. c.shown
+        ≡ (made_under (rule_of coder.now.budget) coder.now.settings.now refs.now
+        (record { planned = planned.now; source = source.now })).shown) }
+{
+    let (rt, alloc, settings) = (coder.rt, coder.alloc, coder.settings);
+    if lot_by(coder) > 1 {
+        if let Some(coded) = coded_in_lot(rt, alloc, settings, kept, planned, source, behind) {
+            return Ok(coded);
+        }
+    }
+    code_picture_by(coder, planned, source, refs)
+}
+
 /// Encodes raw pictures until the source ends: the stream goes to `out`, and the pictures that decoders show for it, in
 /// order of display, as raw pictures to `side`.
 pub fn encode_by<R: Threads + Sync, S: Source, K: Sink, N: Sink, G: RowGate>(
@@ -167,17 +207,23 @@ pub fn encode_by<R: Threads + Sync, S: Source, K: Sink, N: Sink, G: RowGate>(
     let Ok(mut planner) = Planner::try_new(alloc, settings) else {
         return Encoded::NoMemory;
     };
-    let code = |planned: &Planned, source: &Picture, refs: &RefBuffer| -> Result<Coded, NoMemory>
+    let kept = Cell::new(None);
+    let code = |planned: &Planned, source: &Picture, refs: &RefBuffer, behind: &Planner| -> Result<
+        Coded,
+        NoMemory,
+    >
         requires { IsSync R.row × IsSync G.row
-            × IsReadyToCode coder.now.settings.now refs.now planned.now source.now }
+            × IsReadyToCode coder.now.settings.now refs.now planned.now source.now
+            × AreReadyBehind coder.now.settings.now behind.now }
         ensures { IfOk result (IsCodedUnder (rule_of coder.entry.now.budget) coder.entry.now.settings.now
             refs.now planned.now source.now) }
-    { code_picture_by(coder, planned, source, refs) };
+    { code_picture_or_lot(coder, &kept, planned, source, refs, behind) };
     let coder = Coder {
         alloc,
         settings,
         header: header.as_slice(),
         budget: coder.budget,
+        lot: lot_by(coder),
         code: &code,
     };
     let mut coding = Progress::new(alloc);

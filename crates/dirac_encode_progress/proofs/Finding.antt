@@ -90,6 +90,11 @@ lists_found plans t ended p p' c q s accepted same l takes =
       l.listed,
     )
 
+-- and those that wait behind it too
+pub lists_behind : (t : Settings) (ended : Bool) (p p' : Planning) (c : Progress) (q : Planned) (s : Picture) → PlanIsListed t ended p c → Takes ended p p' q s → AllByRecursion (IsSource t) p'.waiting
+lists_behind t ended p p' c q s l takes =
+    subst (λ (ws : List Picture). AllByRecursion (IsSource t) ws) (sym takes.waiting) (taken (IsSource t) takes.before takes.after s (subst (λ (ws : List Picture). AllByRecursion (IsSource t) ws) takes.waited l.sources)).1
+
 pub lists_more : (f : IndexRule) (t : Settings) (ended : Bool) (p p' : Planning) (c c' : Progress) (q : Planned) (s : Picture) (out out' side side' : Option (List ℕ)) → p.settings ≡ t → PlanIsListed t ended p c → Takes ended p p' q s
     → IsCoded t (made_under f t c.refs (record { planned = q; source = s })) c c' out out' side side' → PlanIsListed t ended p' c'
 lists_more f t ended p p' c c' q s out out' side side' same l takes coded =
@@ -108,7 +113,7 @@ lists_more f t ended p p' c c' q s out out' side side' same l takes coded =
       given = omega (arith, takes.given, l.given, coded.count);
       refs = coded.refs ∙ ap (λ r. committed r q.retire (as_reference q.code shown)) l.refs ∙ sym (refs_more [] l.qs q l.shown shown (same_length l.qs l.shown l.numbers));
       listed = subst (λ (r : List Picture). AllByRecursion (IsSource t) r) (sym coded.refs) (all_committed (IsSource t) c.refs q.retire q.code shown l.listed (shown_source f t c.refs (record { planned = q; source = s })));
-      sources = subst (λ (ws : List Picture). AllByRecursion (IsSource t) ws) (sym takes.waiting) (taken (IsSource t) takes.before takes.after s (subst (λ (ws : List Picture). AllByRecursion (IsSource t) ws) takes.waited l.sources)).1;
+      sources = lists_behind t ended p p' c q s l takes;
       in_range = omega (arith, takes.accepted, l.in_range);
     }
 

@@ -19,7 +19,7 @@ use Rattle.dirac_encode_laws.specs.Standing.{coding_in, jobs_in, pushed_now}
 use Rattle.dirac_encode_laws.specs.Stream.{units_of}
 use Rattle.dirac_encode_progress.specs.Alone.{WritesDue, WritesFrontOfRead}
 use Rattle.dirac_encode_progress.specs.Going.{LeadsOn}
-use Rattle.dirac_encode_progress.proofs.Reading.{Runs, closes_part, next_leads, so_far_first}
+use Rattle.dirac_encode_progress.proofs.Reading.{Runs, closes_part, next_leads, so_far_first, waits_leads}
 
 -- of these bytes some were read, and coding came so far by them, whatever follows
 pub record Alone (f : IndexRule) (t : Settings) (bytes : List ℕ) (p : Planning) (c : Progress) (held out0 out side0 side : Option (List ℕ)) : Type 0 where
@@ -60,6 +60,18 @@ alone_leads f t (Some bytes) p q p' c c' held held' out0 out out' side0 side sid
           subst (λ (l : List ℕ). Runs f t l p' c' (Some more) out0 out' side0 side') (sym (append_assoc a.read chunk more))
           (next_leads f t (Some (a.read ++ (chunk ++ more))) p q p' c c' (Some (chunk ++ more)) (Some more) out0 out out' side0 side side' chunk (a.runs (chunk ++ more)) refl are_bytes whole some few is led same);
     }
+
+-- what waits is coded, and nothing is read
+pub alone_waits : (f : IndexRule) (t : Settings) (first : Option (List ℕ)) (p p' : Planning) (c c' : Progress) (held out0 out out' side0 side side' : Option (List ℕ)) → IfSome first (λ bytes. Alone f t bytes p c held out0 out side0 side) → LeadsOn f t false p p' c c' out out' side side' → p'.accepted ≡ p.accepted
+    → IfSome first (λ bytes. Alone f t bytes p' c' held out0 out' side0 side')
+alone_waits f t None p p' c c' held out0 out out' side0 side side' a led same = tt
+alone_waits f t (Some bytes) p p' c c' held out0 out out' side0 side side' a led same = record {
+  read = a.read;
+  rest = a.rest;
+  parts = a.parts;
+  holds = a.holds;
+  runs = λ more. waits_leads f t (Some (a.read ++ more)) p p' c c' (Some more) out0 out out' side0 side side' (a.runs more) led same;
+}
 
 all_is_front : (out out' : Option (List ℕ)) (text : List ℕ) → Appends out out' text → AppendsFront out out' text
 all_is_front out out' text all = (text, [], sym (append-nil text), all)

@@ -320,6 +320,23 @@ next_leads f t (Some bytes) p q p' c c' held held' out0 out out' side0 side side
       below = subst (λ (k : ℕ). AreBytes (take (k * raw_length t) bytes)) (sym same) next.below;
     }
 
+-- ---- what waits is coded, and nothing is read
+
+pub waits_stops : PlansCanBeCoded → (f : IndexRule) (t : Settings) (first : Option (List ℕ)) (p : Planning) (c : Progress) (answer : Encoded) (held out0 out out' side0 side side' : Option (List ℕ)) → IsAccepted t → SoFar f t first p c held out0 out side0 side → Stops f t false p c answer out out' side side'
+    → IfSome first (λ bytes. AnswersEncodedStream answer (encoding_under f t bytes) out0 out' side0 side')
+waits_stops plans f t None p c answer held out0 out out' side0 side side' accepted so stops = tt
+waits_stops plans f t (Some bytes) p c answer held out0 out out' side0 side side' accepted so stops = stops bytes out0 side0 (all_leave plans f t bytes accepted) so.goes
+
+pub waits_leads : (f : IndexRule) (t : Settings) (first : Option (List ℕ)) (p p' : Planning) (c c' : Progress) (held out0 out out' side0 side side' : Option (List ℕ)) → SoFar f t first p c held out0 out side0 side → LeadsOn f t false p p' c c' out out' side side' → p'.accepted ≡ p.accepted
+    → SoFar f t first p' c' held out0 out' side0 side'
+waits_leads f t None p p' c c' held out0 out out' side0 side side' so led same = tt
+waits_leads f t (Some bytes) p p' c c' held out0 out out' side0 side side' so led same = record {
+  goes = led bytes out0 side0 so.goes;
+  is_held = so.is_held ∙ ap (λ k. Some (drop (k * raw_length t) bytes)) (sym same);
+  fits = omega (arith, so.fits, ap (λ k. k * raw_length t) same);
+  below = subst (λ (k : ℕ). AreBytes (take (k * raw_length t) bytes)) (sym same) so.below;
+}
+
 -- ---- the first picture
 
 no_items : (l : List Planned) → length l ≡ 0 → l ≡ []

@@ -10,6 +10,8 @@ pub struct Coder<'a, F> {
     pub budget: Option<u32>,
     /// The bytes of the sequence header.
     pub header: &'a [u8],
-    /// Codes a planned picture over the references that are listed.
+    /// How many pictures wait for one another before they are coded, where so many may wait; 1 if none does.
+    pub lot: usize,
+    /// Codes a planned picture over the references that are listed; it may look at those that wait behind it.
     pub code: &'a F,
 }

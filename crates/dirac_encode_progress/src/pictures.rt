@@ -18,7 +18,7 @@ ghost use Rattle.dirac_encode_progress.specs.Going.{so_far};
 ghost use Rattle.dirac_encode_progress.specs.PictureCoding.{CodesUnder};
 
 use crate::coder::Coder;
-use crate::planned::put_planned;
+use crate::planned::{put_lot, put_planned};
 use crate::progress::Progress;
 use crate::rest::put_rest;
 use dirac_common::{NoMemory, Picture};
@@ -70,7 +70,7 @@ fn behind_whole(left_over: usize) -> Encoded
 
 /// Codes pictures until the source ends; `bytes` is a buffer for a raw picture, whatever it holds.
 pub fn put_pictures<
-    F: Fn(&Planned, &Picture, &RefBuffer) -> Result<Coded, NoMemory>,
+    F: Fn(&Planned, &Picture, &RefBuffer, &Planner) -> Result<Coded, NoMemory>,
     S: Source,
     K: Sink,
     N: Sink,
@@ -117,7 +117,13 @@ pub fn put_pictures<
     let settings = coder.settings;
     'pictures: loop {
         match fill(source, bytes) {
-            Filled::Failed => return Encoded::ReadFault,
+            // What waits only for others of its lot is due all the same.
+            Filled::Failed => {
+                if let Err(answer) = put_planned(coder, out, side, planner, false, coding) {
+                    return answer;
+                }
+                return Encoded::ReadFault;
+            }
             Filled::Ended(n) => {
                 return put_rest(coder, out, side, planner, coding, behind_whole(n));
             }
@@ -130,7 +136,7 @@ pub fn put_pictures<
         let Ok(()) = push_raw(coder, planner, bytes) else {
             return Encoded::NoMemory;
         };
-        if let Err(answer) = put_planned(coder, out, side, planner, false, coding) {
+        if let Err(answer) = put_lot(coder, out, side, planner, coding) {
             return answer;
         }
     }

@@ -22,7 +22,7 @@ use dirac_refs::RefBuffer;
 
 /// Codes all pictures that can be coded by now; where the pictures have ended, all that are left.
 pub(crate) fn put_planned<
-    F: Fn(&Planned, &Picture, &RefBuffer) -> Result<Coded, NoMemory>,
+    F: Fn(&Planned, &Picture, &RefBuffer, &Planner) -> Result<Coded, NoMemory>,
     K: Sink,
     N: Sink,
 >(
@@ -62,9 +62,54 @@ pub(crate) fn put_planned<
 {
     plans_can_be_coded();
     'planned: while let Some((planned, source)) = planner.take(ended) {
-        if let Err(answer) = put_source(coder, out, side, &planned, &source, coding) {
+        if let Err(answer) = put_source(coder, out, side, &planned, &source, planner, coding) {
             return Err(answer);
         }
     }
     Ok(())
+}
+
+/// Codes all pictures that can be coded by now, unless fewer wait than are coded together and the next one will be
+/// accepted.
+pub(crate) fn put_lot<
+    F: Fn(&Planned, &Picture, &RefBuffer, &Planner) -> Result<Coded, NoMemory>,
+    K: Sink,
+    N: Sink,
+>(
+    coder: &Coder<F>,
+    out: &mut K,
+    side: &mut N,
+    planner: &mut Planner,
+    coding: &mut Progress,
+) -> Result<(), Encoded>
+    requires codes { CodesUnder (rule_of coder.now.budget) coder.now.settings.now (F.pre coder.now.code.now)
+        (F.post coder.now.code.now) }
+    requires accepted { IsAccepted coder.now.settings.now }
+    requires header { coder.now.header.now ≡ sequence_payload coder.now.settings.now }
+    requires settings { planner.old.settings ≡ coder.now.settings.now }
+    requires going { planner.old.ended ≡ false }
+    requires lists { PlanIsListed coder.now.settings.now false planner.old (so_far coding.old) }
+    ensures lists { OnOk result (PlanIsListed coder.now.settings.now false planner.new (so_far coding.new)) }
+    ensures led { OnOk result (LeadsOn (rule_of coder.now.budget) coder.now.settings.now false planner.old planner.new
+        (so_far coding.old) (so_far coding.new)
+        (K.taken out.old) (K.taken out.new) (N.taken side.old) (N.taken side.new)) }
+    ensures opened { OnOk result (is_closed planner.new ≡ false) }
+    ensures counts { OnOk result (planner.new.accepted ≡ planner.new.given + length planner.new.waiting) }
+    ensures waiting_fit { OnOk result (length planner.new.waiting ≤ waiting_places planner.new.settings) }
+    ensures told { OnOk result (planner.new.ended ≡ false) }
+    ensures accepted { planner.new.accepted ≡ planner.old.accepted }
+    ensures settings { planner.new.settings ≡ coder.now.settings.now }
+    ensures stopped { IfErr result (λ answer. Stops (rule_of coder.now.budget) coder.now.settings.now false planner.old
+        (so_far coding.old) answer (K.taken out.old) (K.taken out.new) (N.taken side.old) (N.taken side.new)) }
+    ensures stops { IfErr result StopsCoding }
+    ensures write_fault { result ≡ Err Encoded.WriteFault → Rose (K.faults out.old) (K.faults out.new) }
+    ensures side_fault { result ≡ Err Encoded.SideFault → Rose (N.faults side.old) (N.faults side.new) }
+    ensures writes { K.faults out.old ≤ K.faults out.new }
+    ensures sides { N.faults side.old ≤ N.faults side.new }
+{
+    let waiting = planner.waiting();
+    if waiting < coder.lot && !planner.is_closed() {
+        return Ok(());
+    }
+    put_planned(coder, out, side, planner, false, coding)
 }

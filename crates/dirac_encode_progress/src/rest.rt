@@ -22,7 +22,7 @@ use dirac_refs::RefBuffer;
 
 /// Codes all pictures that wait and ends the stream. Where nothing stops it, it answers `behind`.
 pub(crate) fn put_rest<
-    F: Fn(&Planned, &Picture, &RefBuffer) -> Result<Coded, NoMemory>,
+    F: Fn(&Planned, &Picture, &RefBuffer, &Planner) -> Result<Coded, NoMemory>,
     K: Sink,
     N: Sink,
 >(

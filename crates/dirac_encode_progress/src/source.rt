@@ -19,7 +19,7 @@ ghost use Rattle.dirac_encode_laws.specs.Fit.{rule_of};
 ghost use Rattle.dirac_encode_laws.specs.Steps.{IsCoded, IsFault, StopsCoding, StopsPicture};
 ghost use Rattle.dirac_encode_laws.specs.Stream.{unit};
 ghost use Rattle.dirac_encode_progress.specs.Going.{waiting_joined, so_far};
-ghost use Rattle.dirac_encode_progress.specs.PictureCoding.{CodesUnder, IsReadyToCode};
+ghost use Rattle.dirac_encode_progress.specs.PictureCoding.{AreReadyBehind, CodesUnder, IsReadyToCode};
 
 use crate::coder::Coder;
 use crate::delivering::deliver;
@@ -29,7 +29,7 @@ use dirac_common::{NoMemory, Picture};
 use dirac_encode_laws::{Coded, Encoded};
 use dirac_io::{Put, Sink, Unwritten};
 use dirac_picture::is_intra;
-use dirac_plan::Planned;
+use dirac_plan::{Planned, Planner};
 use dirac_refs::{RefBuffer, reference_of};
 use dirac_units::{PARSE_INFO_LENGTH, put_unit};
 use std::alloc::Global;
@@ -104,15 +104,17 @@ fn length_before(code: u8, header: &[u8], previous: u32) -> u32
 }
 
 /// Codes a planned picture by the call handed in.
-fn code_source<F: Fn(&Planned, &Picture, &RefBuffer) -> Result<Coded, NoMemory>>(
+fn code_source<F: Fn(&Planned, &Picture, &RefBuffer, &Planner) -> Result<Coded, NoMemory>>(
     coder: &Coder<F>,
     planned: &Planned,
     source: &Picture,
     refs: &RefBuffer,
+    behind: &Planner,
 ) -> Result<Coded, NoMemory>
     requires codes { CodesUnder (rule_of coder.now.budget) coder.now.settings.now (F.pre coder.now.code.now)
         (F.post coder.now.code.now) }
     requires ready { IsReadyToCode coder.now.settings.now refs.now planned.now source.now }
+    requires behind { AreReadyBehind coder.now.settings.now behind.now }
     ensures payload { IfOk result (λ c. c.payload.items
         ≡ (made_under (rule_of coder.now.budget) coder.now.settings.now refs.now
         (record { planned = planned.now; source = source.now })).payload) }
@@ -121,13 +123,14 @@ fn code_source<F: Fn(&Planned, &Picture, &RefBuffer) -> Result<Coded, NoMemory>>
         (record { planned = planned.now; source = source.now })).shown) }
 {
     let code = coder.code;
-    let coded = code(planned, source, refs)?;
+    let coded = code(planned, source, refs, behind)?;
     Ok(coded)
 }
 
-/// Codes a planned picture and writes its unit, an intra picture's behind a sequence header.
+/// Codes a planned picture and writes its unit, an intra picture's behind a sequence header. The planner is the one that
+/// gave it, with those that wait behind it.
 pub(crate) fn put_source<
-    F: Fn(&Planned, &Picture, &RefBuffer) -> Result<Coded, NoMemory>,
+    F: Fn(&Planned, &Picture, &RefBuffer, &Planner) -> Result<Coded, NoMemory>,
     K: Sink,
     N: Sink,
 >(
@@ -136,6 +139,7 @@ pub(crate) fn put_source<
     side: &mut N,
     planned: &Planned,
     source: &Picture,
+    behind: &Planner,
     coding: &mut Progress,
 ) -> Result<(), Encoded>
     requires codes { CodesUnder (rule_of coder.now.budget) coder.now.settings.now (F.pre coder.now.code.now)
@@ -145,6 +149,7 @@ pub(crate) fn put_source<
     requires planned { IsPlanned planned.now }
     requires same { source.now.number ≡ planned.now.number }
     requires source { IsSource coder.now.settings.now source.now }
+    requires behind { AreReadyBehind coder.now.settings.now behind.now }
     requires listed { AllByRecursion (IsSource coder.now.settings.now) coding.old.refs }
     requires found { are_listed coding.old.refs (header_of planned.now) ≡ true }
     requires in_range { coding.old.count + 1 < 2 ^ 32 }
@@ -169,7 +174,7 @@ pub(crate) fn put_source<
         Err(Unwritten::Failed) => return Err(Encoded::WriteFault),
         Err(Unwritten::NoMemory) => return Err(Encoded::NoMemory),
     }
-    let Ok(coded) = code_source(coder, planned, source, &coding.refs) else {
+    let Ok(coded) = code_source(coder, planned, source, &coding.refs, behind) else {
         return Err(Encoded::NoMemory);
     };
     if (PARSE_INFO_LENGTH + coded.payload.len()) as u64 > u64::from(settings.unit_bytes) {

@@ -1,4 +1,4 @@
-use Rattle.std.proofs.Common.{◌≡◌, ◌∙◌, sym, ap, subst, arith}
+use Rattle.std.proofs.Common.{◌≡◌, ◌∙◌, ap, subst, arith}
 use Rattle.dirac_sources.specs.Sources.{picture_from}
 use Rattle.dirac_plan.specs.Planning.{with_picture}
 use Rattle.dirac_encode_laws.specs.Coded.{IsSource}

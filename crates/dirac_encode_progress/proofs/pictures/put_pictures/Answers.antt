@@ -1,19 +1,16 @@
-use Rattle.std.proofs.Common.{◌≡◌, ◌<◌, ◌∙◌, ℕ, List, [], take, Some, refl, sym, ap, subst, arith, append-nil, length}
+use Rattle.std.proofs.Common.{◌<◌, ◌∙◌, ℕ, List, [], take, Some, refl, sym, ap, subst, arith, append-nil, length}
 use Rattle.std.proofs.lemmas.List.{length-take-le}
-use Rattle.dirac_sources.specs.Sources.{picture_from}
-use Rattle.dirac_plan.specs.Planning.{Planning, is_closed, with_picture}
-use Rattle.std.specs.Prelude.{IfSome}
-use Rattle.dirac_encode_laws.specs.declared.answers.Encoded.{Encoded}
+use Rattle.dirac_plan.specs.Planning.{Planning, is_closed}
 use Rattle.dirac_encode_laws.specs.declared.answers.Encoded.TheVariants as encoded
-use Rattle.dirac_encode_laws.specs.Encoding.{AnswersEncodedStream, EncodesToTheEnd, answer_behind, encoding_under}
+use Rattle.dirac_encode_laws.specs.Encoding.{EncodesToTheEnd, answer_behind}
 use Rattle.dirac_encode_laws.specs.Fit.{rule_of}
 use Rattle.dirac_encode_laws.proofs.Fitting.{rule_gives}
 use Rattle.dirac_encode_laws.specs.Steps.{Progress}
 use Rattle.dirac_encode_laws.proofs.Accepted.{most_pictures, raw_some}
 use Rattle.dirac_encode_progress.specs.Going.{so_far}
 use Rattle.dirac_encode_progress.proofs.Finding.{lists_first, lists_last, lists_pushed}
-use Rattle.dirac_encode_progress.proofs.Reading.{behind_some, many_ends, next_leads, next_stops, open_at_first, part_ends, so_far_first, stop_no_part, stopped_before_the_end, stops_here}
-use Rattle.dirac_encode_progress.proofs.OfRead.{alone_first, alone_leads, due_by, front_by}
+use Rattle.dirac_encode_progress.proofs.Reading.{behind_some, many_ends, next_leads, next_stops, open_at_first, part_ends, so_far_first, stop_no_part, stopped_before_the_end, stops_here, waits_leads, waits_stops}
+use Rattle.dirac_encode_progress.proofs.OfRead.{alone_first, alone_leads, alone_waits, due_by, front_by}
 use Rattle.dirac_encode_progress.proofs.Closing.{many_answer, part_answers, rest_behind, rest_recovered}
 use Rattle.dirac_encode_progress.proofs.pictures.put_pictures.Goals as goal
 
@@ -44,10 +41,43 @@ pictures-init g c =
       sides = omega arith;
     }
 
+pub returns-in-Err-clause-encoded : goal.returns-in-Err-clause-encoded
+returns-in-Err-clause-encoded g c =
+    let f = rule_of c.args.coder.now.budget in
+    let t = c.args.coder.now.settings.now in
+    let first = g.S.Source.held c.args.source.now in
+    waits_stops c.plans_can_be_coded.ensures f t first c.pictures.planner (so_far c.pictures.coding) c.in-Err.answer (g.S.Source.held c.pictures.source) (g.K.Sink.taken c.args.out.now) (g.K.Sink.taken c.pictures.out) (g.K.Sink.taken c.put_planned.new.out) (g.N.Sink.taken c.args.side.now) (g.N.Sink.taken c.pictures.side) (g.N.Sink.taken c.put_planned.new.side)
+    c.requires.accepted c.pictures.invariant.runs c.in-Err.ensures.stopped
+
+pub returns-in-Err-clause-recovered : goal.returns-in-Err-clause-recovered
+returns-in-Err-clause-recovered g c =
+    stopped_before_the_end (rule_of c.args.coder.now.budget) c.args.coder.now.settings.now (g.S.Source.held c.args.source.now) c.in-Err.answer c.in-Err.ensures.stops
+
+pub returns-in-Err-clause-partial : goal.returns-in-Err-clause-partial
+returns-in-Err-clause-partial g c =
+    λ n is. absurd (stop_no_part c.in-Err.answer n c.in-Err.ensures.stops is)
+
+pub returns-in-Err-clause-front_of_read : goal.returns-in-Err-clause-front_of_read
+returns-in-Err-clause-front_of_read g c =
+    let f = rule_of c.args.coder.now.budget in
+    let t = c.args.coder.now.settings.now in
+    let first = g.S.Source.held c.args.source.now in
+    let front = c.in-Failed.ensures.front refl in
+    let part : List ℕ = take front.0 c.fill.new.buf in
+    front_by f t first c.pictures.planner (so_far c.pictures.coding) c.in-Err.answer (g.S.Source.held c.pictures.source) (g.S.Source.held c.fill.new.source) (g.K.Sink.taken c.args.out.now) (g.K.Sink.taken c.pictures.out) (g.K.Sink.taken c.put_planned.new.out) (g.N.Sink.taken c.args.side.now) (g.N.Sink.taken c.pictures.side) (g.N.Sink.taken c.put_planned.new.side)
+    part c.pictures.invariant.alone front.2
+    (λ bytes runs.
+    waits_stops c.plans_can_be_coded.ensures f t (Some bytes) c.pictures.planner (so_far c.pictures.coding) c.in-Err.answer (Some part) (g.K.Sink.taken c.args.out.now) (g.K.Sink.taken c.pictures.out) (g.K.Sink.taken c.put_planned.new.out) (g.N.Sink.taken c.args.side.now) (g.N.Sink.taken c.pictures.side) (g.N.Sink.taken c.put_planned.new.side)
+    c.requires.accepted runs c.in-Err.ensures.stopped)
+
 pub returns-in-Failed-clause-encoded : goal.returns-in-Failed-clause-encoded
 returns-in-Failed-clause-encoded g c =
-    stops_here c.plans_can_be_coded.ensures (rule_of c.args.coder.now.budget) c.args.coder.now.settings.now (g.S.Source.held c.args.source.now) c.pictures.planner (so_far c.pictures.coding) (g.S.Source.held c.pictures.source) (g.K.Sink.taken c.args.out.now) (g.K.Sink.taken c.pictures.out)
-    (g.N.Sink.taken c.args.side.now) (g.N.Sink.taken c.pictures.side) c.requires.accepted c.pictures.invariant.runs
+    let f = rule_of c.args.coder.now.budget in
+    let t = c.args.coder.now.settings.now in
+    let first = g.S.Source.held c.args.source.now in
+    stops_here c.plans_can_be_coded.ensures f t first c.put_planned.new.planner (so_far c.put_planned.new.coding) (g.S.Source.held c.pictures.source) (g.K.Sink.taken c.args.out.now) (g.K.Sink.taken c.put_planned.new.out) (g.N.Sink.taken c.args.side.now) (g.N.Sink.taken c.put_planned.new.side) c.requires.accepted
+    (waits_leads f t first c.pictures.planner c.put_planned.new.planner (so_far c.pictures.coding) (so_far c.put_planned.new.coding) (g.S.Source.held c.pictures.source) (g.K.Sink.taken c.args.out.now) (g.K.Sink.taken c.pictures.out) (g.K.Sink.taken c.put_planned.new.out) (g.N.Sink.taken c.args.side.now) (g.N.Sink.taken c.pictures.side) (g.N.Sink.taken c.put_planned.new.side)
+    c.pictures.invariant.runs c.in_default.ensures.led c.in_default.ensures.accepted)
 
 pub returns-in-Ended-clause-encoded : goal.returns-in-Ended-clause-encoded
 returns-in-Ended-clause-encoded g c =
@@ -141,28 +171,28 @@ returns-then-number-settings-clause-read g c =
     let same = rest_behind (rule_of c.args.coder.now.budget) c.args.coder.now.settings.now c.pictures.planner (so_far c.pictures.coding) encoded.TooManyPictures c.put_rest-then-number-settings.result encoded.ReadFault (g.K.Sink.taken c.pictures.out) (g.K.Sink.taken c.put_rest-then-number-settings.new.out) (g.N.Sink.taken c.pictures.side) (g.N.Sink.taken c.put_rest-then-number-settings.new.side) (λ stops. stops) c.put_rest-then-number-settings.ensures.ends is in
     absurd (subst EncodesToTheEnd same tt)
 
-pub returns-in_default-clause-encoded : goal.returns-in_default-clause-encoded
-returns-in_default-clause-encoded g c =
+pub returns-in_default-push_raw-clause-encoded : goal.returns-in_default-push_raw-clause-encoded
+returns-in_default-push_raw-clause-encoded g c =
     stops_here c.plans_can_be_coded.ensures (rule_of c.args.coder.now.budget) c.args.coder.now.settings.now (g.S.Source.held c.args.source.now) c.pictures.planner (so_far c.pictures.coding) (g.S.Source.held c.pictures.source) (g.K.Sink.taken c.args.out.now) (g.K.Sink.taken c.pictures.out)
     (g.N.Sink.taken c.args.side.now) (g.N.Sink.taken c.pictures.side) c.requires.accepted c.pictures.invariant.runs
 
-pub returns-in-Err-clause-encoded : goal.returns-in-Err-clause-encoded
-returns-in-Err-clause-encoded g c =
+pub returns-in-Err-put_lot-clause-encoded : goal.returns-in-Err-put_lot-clause-encoded
+returns-in-Err-put_lot-clause-encoded g c =
     let f = rule_of c.args.coder.now.budget in
     let t = c.args.coder.now.settings.now in
     let first = g.S.Source.held c.args.source.now in
     let few : c.pictures.planner.accepted < t.pictures = omega (arith, c.accepted-number.ensures.value, c.if-number-settings.false, c.pictures.invariant.in_range) in
-    next_stops c.plans_can_be_coded.ensures f t first c.pictures.planner c.push_raw.new.planner (so_far c.pictures.coding) c.in-Err.answer (g.S.Source.held c.pictures.source) (g.S.Source.held c.fill.new.source)
-    (g.K.Sink.taken c.args.out.now) (g.K.Sink.taken c.pictures.out) (g.K.Sink.taken c.put_planned.new.out) (g.N.Sink.taken c.args.side.now) (g.N.Sink.taken c.pictures.side) (g.N.Sink.taken c.put_planned.new.side)
-    c.fill.new.buf c.requires.accepted c.pictures.invariant.runs (c.in-Whole.ensures.whole refl) c.push_raw.ensures.below_256 (c.fill.ensures.size ∙ c.pictures.invariant.size) (raw_some t c.requires.accepted) few c.in-Ok.ensures.pushed c.in-Err.ensures.stopped
+    next_stops c.plans_can_be_coded.ensures f t first c.pictures.planner c.push_raw.new.planner (so_far c.pictures.coding) c.in-Err-put_lot.answer (g.S.Source.held c.pictures.source) (g.S.Source.held c.fill.new.source)
+    (g.K.Sink.taken c.args.out.now) (g.K.Sink.taken c.pictures.out) (g.K.Sink.taken c.put_lot.new.out) (g.N.Sink.taken c.args.side.now) (g.N.Sink.taken c.pictures.side) (g.N.Sink.taken c.put_lot.new.side)
+    c.fill.new.buf c.requires.accepted c.pictures.invariant.runs (c.in-Whole.ensures.whole refl) c.push_raw.ensures.below_256 (c.fill.ensures.size ∙ c.pictures.invariant.size) (raw_some t c.requires.accepted) few c.in-Ok.ensures.pushed c.in-Err-put_lot.ensures.stopped
 
-pub returns-in-Err-clause-recovered : goal.returns-in-Err-clause-recovered
-returns-in-Err-clause-recovered g c =
-    stopped_before_the_end (rule_of c.args.coder.now.budget) c.args.coder.now.settings.now (g.S.Source.held c.args.source.now) c.in-Err.answer c.in-Err.ensures.stops
+pub returns-in-Err-put_lot-clause-recovered : goal.returns-in-Err-put_lot-clause-recovered
+returns-in-Err-put_lot-clause-recovered g c =
+    stopped_before_the_end (rule_of c.args.coder.now.budget) c.args.coder.now.settings.now (g.S.Source.held c.args.source.now) c.in-Err-put_lot.answer c.in-Err-put_lot.ensures.stops
 
-pub returns-in-Err-clause-partial : goal.returns-in-Err-clause-partial
-returns-in-Err-clause-partial g c =
-    λ n is. absurd (stop_no_part c.in-Err.answer n c.in-Err.ensures.stops is)
+pub returns-in-Err-put_lot-clause-partial : goal.returns-in-Err-put_lot-clause-partial
+returns-in-Err-put_lot-clause-partial g c =
+    λ n is. absurd (stop_no_part c.in-Err-put_lot.answer n c.in-Err-put_lot.ensures.stops is)
 
 pub pictures-preserved : goal.pictures-preserved
 pictures-preserved g c =
@@ -170,29 +200,29 @@ pictures-preserved g c =
     let t = c.args.coder.now.settings.now in
     let first = g.S.Source.held c.args.source.now in
     let few : c.pictures.planner.accepted < t.pictures = omega (arith, c.accepted-number.ensures.value, c.if-number-settings.false, c.pictures.invariant.in_range) in
-    let same = c.in_default-put_planned.ensures.accepted in
+    let same = c.in_default-put_lot.ensures.accepted in
     record {
-      runs = next_leads f t first c.pictures.planner c.push_raw.new.planner c.put_planned.new.planner (so_far c.pictures.coding) (so_far c.put_planned.new.coding) (g.S.Source.held c.pictures.source) (g.S.Source.held c.fill.new.source)
-          (g.K.Sink.taken c.args.out.now) (g.K.Sink.taken c.pictures.out) (g.K.Sink.taken c.put_planned.new.out) (g.N.Sink.taken c.args.side.now) (g.N.Sink.taken c.pictures.side) (g.N.Sink.taken c.put_planned.new.side)
-          c.fill.new.buf c.pictures.invariant.runs (c.in-Whole.ensures.whole refl) c.push_raw.ensures.below_256 (c.fill.ensures.size ∙ c.pictures.invariant.size) (raw_some t c.requires.accepted) few c.in-Ok.ensures.pushed c.in_default-put_planned.ensures.led same;
-      alone = alone_leads f t first c.pictures.planner c.push_raw.new.planner c.put_planned.new.planner (so_far c.pictures.coding) (so_far c.put_planned.new.coding) (g.S.Source.held c.pictures.source) (g.S.Source.held c.fill.new.source)
-          (g.K.Sink.taken c.args.out.now) (g.K.Sink.taken c.pictures.out) (g.K.Sink.taken c.put_planned.new.out) (g.N.Sink.taken c.args.side.now) (g.N.Sink.taken c.pictures.side) (g.N.Sink.taken c.put_planned.new.side)
-          c.fill.new.buf c.pictures.invariant.alone (c.in-Whole.ensures.whole refl) c.push_raw.ensures.below_256 (c.fill.ensures.size ∙ c.pictures.invariant.size) (raw_some t c.requires.accepted) few c.in-Ok.ensures.pushed c.in_default-put_planned.ensures.led same;
-      lists = c.in_default-put_planned.ensures.lists;
-      settings = c.in_default-put_planned.ensures.settings;
-      going = c.in_default-put_planned.ensures.told;
-      opened = c.in_default-put_planned.ensures.opened refl;
-      counts = c.in_default-put_planned.ensures.counts;
-      fit = c.in_default-put_planned.ensures.waiting_fit;
+      runs = next_leads f t first c.pictures.planner c.push_raw.new.planner c.put_lot.new.planner (so_far c.pictures.coding) (so_far c.put_lot.new.coding) (g.S.Source.held c.pictures.source) (g.S.Source.held c.fill.new.source)
+          (g.K.Sink.taken c.args.out.now) (g.K.Sink.taken c.pictures.out) (g.K.Sink.taken c.put_lot.new.out) (g.N.Sink.taken c.args.side.now) (g.N.Sink.taken c.pictures.side) (g.N.Sink.taken c.put_lot.new.side)
+          c.fill.new.buf c.pictures.invariant.runs (c.in-Whole.ensures.whole refl) c.push_raw.ensures.below_256 (c.fill.ensures.size ∙ c.pictures.invariant.size) (raw_some t c.requires.accepted) few c.in-Ok.ensures.pushed c.in_default-put_lot.ensures.led same;
+      alone = alone_leads f t first c.pictures.planner c.push_raw.new.planner c.put_lot.new.planner (so_far c.pictures.coding) (so_far c.put_lot.new.coding) (g.S.Source.held c.pictures.source) (g.S.Source.held c.fill.new.source)
+          (g.K.Sink.taken c.args.out.now) (g.K.Sink.taken c.pictures.out) (g.K.Sink.taken c.put_lot.new.out) (g.N.Sink.taken c.args.side.now) (g.N.Sink.taken c.pictures.side) (g.N.Sink.taken c.put_lot.new.side)
+          c.fill.new.buf c.pictures.invariant.alone (c.in-Whole.ensures.whole refl) c.push_raw.ensures.below_256 (c.fill.ensures.size ∙ c.pictures.invariant.size) (raw_some t c.requires.accepted) few c.in-Ok.ensures.pushed c.in_default-put_lot.ensures.led same;
+      lists = c.in_default-put_lot.ensures.lists;
+      settings = c.in_default-put_lot.ensures.settings;
+      going = c.in_default-put_lot.ensures.told;
+      opened = c.in_default-put_lot.ensures.opened;
+      counts = c.in_default-put_lot.ensures.counts;
+      fit = c.in_default-put_lot.ensures.waiting_fit;
       in_range = omega (arith, few, same, ap (λ (p : Planning). p.accepted) c.in-Ok.ensures.pushed);
       size = c.fill.ensures.size ∙ c.pictures.invariant.size;
       reads = omega (arith, c.pictures.invariant.reads, c.fill.ensures.count);
-      writes = omega (arith, c.pictures.invariant.writes, c.put_planned.ensures.writes);
-      sides = omega (arith, c.pictures.invariant.sides, c.put_planned.ensures.sides);
+      writes = omega (arith, c.pictures.invariant.writes, c.put_lot.ensures.writes);
+      sides = omega (arith, c.pictures.invariant.sides, c.put_lot.ensures.sides);
     }
 
-pub put_planned-requires-clause-lists : goal.put_planned-requires-clause-lists
-put_planned-requires-clause-lists g c =
+pub put_lot-requires-clause-lists : goal.put_lot-requires-clause-lists
+put_lot-requires-clause-lists g c =
     lists_pushed c.args.coder.now.settings.now c.pictures.planner c.push_raw.new.planner (so_far c.pictures.coding) _ c.pictures.invariant.lists c.in-Ok.ensures.source c.in-Ok.ensures.pushed
     (omega (arith, c.accepted-number.ensures.value, c.if-number-settings.false, c.pictures.invariant.in_range, most_pictures c.args.coder.now.settings.now c.requires.accepted))
 
@@ -206,14 +236,15 @@ pub returns-in-Failed-clause-front_of_read : goal.returns-in-Failed-clause-front
 returns-in-Failed-clause-front_of_read g c =
     let f = rule_of c.args.coder.now.budget in
     let t = c.args.coder.now.settings.now in
+    let first = g.S.Source.held c.args.source.now in
     let front = c.in-Failed.ensures.front refl in
     let part : List ℕ = take front.0 c.fill.new.buf in
-    front_by f t (g.S.Source.held c.args.source.now) c.pictures.planner (so_far c.pictures.coding) encoded.ReadFault (g.S.Source.held c.pictures.source) (g.S.Source.held c.fill.new.source)
-    (g.K.Sink.taken c.args.out.now) (g.K.Sink.taken c.pictures.out) (g.K.Sink.taken c.pictures.out) (g.N.Sink.taken c.args.side.now) (g.N.Sink.taken c.pictures.side) (g.N.Sink.taken c.pictures.side)
-    part c.pictures.invariant.alone front.2
+    let alone = alone_waits f t first c.pictures.planner c.put_planned.new.planner (so_far c.pictures.coding) (so_far c.put_planned.new.coding) (g.S.Source.held c.pictures.source) (g.K.Sink.taken c.args.out.now) (g.K.Sink.taken c.pictures.out) (g.K.Sink.taken c.put_planned.new.out) (g.N.Sink.taken c.args.side.now) (g.N.Sink.taken c.pictures.side) (g.N.Sink.taken c.put_planned.new.side)
+    c.pictures.invariant.alone c.in_default.ensures.led c.in_default.ensures.accepted in
+    front_by f t first c.put_planned.new.planner (so_far c.put_planned.new.coding) encoded.ReadFault (g.S.Source.held c.pictures.source) (g.S.Source.held c.fill.new.source) (g.K.Sink.taken c.args.out.now) (g.K.Sink.taken c.put_planned.new.out) (g.K.Sink.taken c.put_planned.new.out) (g.N.Sink.taken c.args.side.now) (g.N.Sink.taken c.put_planned.new.side) (g.N.Sink.taken c.put_planned.new.side)
+    part alone front.2
     (λ bytes runs.
-    stops_here c.plans_can_be_coded.ensures f t (Some bytes) c.pictures.planner (so_far c.pictures.coding) (Some part) (g.K.Sink.taken c.args.out.now) (g.K.Sink.taken c.pictures.out)
-    (g.N.Sink.taken c.args.side.now) (g.N.Sink.taken c.pictures.side) c.requires.accepted runs)
+    stops_here c.plans_can_be_coded.ensures f t (Some bytes) c.put_planned.new.planner (so_far c.put_planned.new.coding) (Some part) (g.K.Sink.taken c.args.out.now) (g.K.Sink.taken c.put_planned.new.out) (g.N.Sink.taken c.args.side.now) (g.N.Sink.taken c.put_planned.new.side) c.requires.accepted runs)
 
 pub returns-in-Ended-clause-front_of_read : goal.returns-in-Ended-clause-front_of_read
 returns-in-Ended-clause-front_of_read g c =
@@ -246,8 +277,8 @@ returns-then-number-settings-clause-front_of_read g c =
     (g.K.Sink.taken c.args.out.now) (g.K.Sink.taken c.pictures.out) (g.K.Sink.taken c.put_rest-then-number-settings.new.out) (g.N.Sink.taken c.args.side.now) (g.N.Sink.taken c.pictures.side) (g.N.Sink.taken c.put_rest-then-number-settings.new.side)
     c.requires.accepted ends c.put_rest-then-number-settings.ensures.ends)
 
-pub returns-in_default-clause-front_of_read : goal.returns-in_default-clause-front_of_read
-returns-in_default-clause-front_of_read g c =
+pub returns-in_default-push_raw-clause-front_of_read : goal.returns-in_default-push_raw-clause-front_of_read
+returns-in_default-push_raw-clause-front_of_read g c =
     let f = rule_of c.args.coder.now.budget in
     let t = c.args.coder.now.settings.now in
     let part : List ℕ = c.fill.new.buf in
@@ -258,26 +289,30 @@ returns-in_default-clause-front_of_read g c =
     stops_here c.plans_can_be_coded.ensures f t (Some bytes) c.pictures.planner (so_far c.pictures.coding) (Some part) (g.K.Sink.taken c.args.out.now) (g.K.Sink.taken c.pictures.out)
     (g.N.Sink.taken c.args.side.now) (g.N.Sink.taken c.pictures.side) c.requires.accepted runs)
 
-pub returns-in-Err-clause-front_of_read : goal.returns-in-Err-clause-front_of_read
-returns-in-Err-clause-front_of_read g c =
+pub returns-in-Err-put_lot-clause-front_of_read : goal.returns-in-Err-put_lot-clause-front_of_read
+returns-in-Err-put_lot-clause-front_of_read g c =
     let f = rule_of c.args.coder.now.budget in
     let t = c.args.coder.now.settings.now in
     let part : List ℕ = c.fill.new.buf in
-    front_by f t (g.S.Source.held c.args.source.now) c.pictures.planner (so_far c.pictures.coding) c.in-Err.answer (g.S.Source.held c.pictures.source) (g.S.Source.held c.fill.new.source)
-    (g.K.Sink.taken c.args.out.now) (g.K.Sink.taken c.pictures.out) (g.K.Sink.taken c.put_planned.new.out) (g.N.Sink.taken c.args.side.now) (g.N.Sink.taken c.pictures.side) (g.N.Sink.taken c.put_planned.new.side)
+    front_by f t (g.S.Source.held c.args.source.now) c.pictures.planner (so_far c.pictures.coding) c.in-Err-put_lot.answer (g.S.Source.held c.pictures.source) (g.S.Source.held c.fill.new.source)
+    (g.K.Sink.taken c.args.out.now) (g.K.Sink.taken c.pictures.out) (g.K.Sink.taken c.put_lot.new.out) (g.N.Sink.taken c.args.side.now) (g.N.Sink.taken c.pictures.side) (g.N.Sink.taken c.put_lot.new.side)
     part c.pictures.invariant.alone (c.in-Whole.ensures.whole refl)
     (λ bytes runs.
     let few : c.pictures.planner.accepted < t.pictures = omega (arith, c.accepted-number.ensures.value, c.if-number-settings.false, c.pictures.invariant.in_range) in
-    next_stops c.plans_can_be_coded.ensures f t (Some bytes) c.pictures.planner c.push_raw.new.planner (so_far c.pictures.coding) c.in-Err.answer (Some part) (Some [])
-    (g.K.Sink.taken c.args.out.now) (g.K.Sink.taken c.pictures.out) (g.K.Sink.taken c.put_planned.new.out) (g.N.Sink.taken c.args.side.now) (g.N.Sink.taken c.pictures.side) (g.N.Sink.taken c.put_planned.new.side)
-    c.fill.new.buf c.requires.accepted runs (sym (append-nil part)) c.push_raw.ensures.below_256 (c.fill.ensures.size ∙ c.pictures.invariant.size) (raw_some t c.requires.accepted) few c.in-Ok.ensures.pushed c.in-Err.ensures.stopped)
+    next_stops c.plans_can_be_coded.ensures f t (Some bytes) c.pictures.planner c.push_raw.new.planner (so_far c.pictures.coding) c.in-Err-put_lot.answer (Some part) (Some [])
+    (g.K.Sink.taken c.args.out.now) (g.K.Sink.taken c.pictures.out) (g.K.Sink.taken c.put_lot.new.out) (g.N.Sink.taken c.args.side.now) (g.N.Sink.taken c.pictures.side) (g.N.Sink.taken c.put_lot.new.side)
+    c.fill.new.buf c.requires.accepted runs (sym (append-nil part)) c.push_raw.ensures.below_256 (c.fill.ensures.size ∙ c.pictures.invariant.size) (raw_some t c.requires.accepted) few c.in-Ok.ensures.pushed c.in-Err-put_lot.ensures.stopped)
 
 pub returns-in-Failed-clause-due : goal.returns-in-Failed-clause-due
 returns-in-Failed-clause-due g c = λ failed.
+    let f = rule_of c.args.coder.now.budget in
+    let t = c.args.coder.now.settings.now in
+    let first = g.S.Source.held c.args.source.now in
     let front = c.in-Failed.ensures.front refl in
     let few : front.0 < length c.fill.new.buf = omega (arith, front.1, c.fill.ensures.size) in
-    due_by (rule_of c.args.coder.now.budget) c.args.coder.now.settings.now (g.S.Source.held c.args.source.now) c.pictures.planner (so_far c.pictures.coding) (g.S.Source.held c.pictures.source) (g.S.Source.held c.fill.new.source)
-    (g.K.Sink.taken c.args.out.now) (g.K.Sink.taken c.pictures.out) (g.N.Sink.taken c.args.side.now) (g.N.Sink.taken c.pictures.side)
-    (take front.0 c.fill.new.buf) c.pictures.invariant.alone front.2
+    let alone = alone_waits f t first c.pictures.planner c.put_planned.new.planner (so_far c.pictures.coding) (so_far c.put_planned.new.coding) (g.S.Source.held c.pictures.source) (g.K.Sink.taken c.args.out.now) (g.K.Sink.taken c.pictures.out) (g.K.Sink.taken c.put_planned.new.out) (g.N.Sink.taken c.args.side.now) (g.N.Sink.taken c.pictures.side) (g.N.Sink.taken c.put_planned.new.side)
+    c.pictures.invariant.alone c.in_default.ensures.led c.in_default.ensures.accepted in
+    due_by f t first c.put_planned.new.planner (so_far c.put_planned.new.coding) (g.S.Source.held c.pictures.source) (g.S.Source.held c.fill.new.source) (g.K.Sink.taken c.args.out.now) (g.K.Sink.taken c.put_planned.new.out) (g.N.Sink.taken c.args.side.now) (g.N.Sink.taken c.put_planned.new.side)
+    (take front.0 c.fill.new.buf) alone front.2
     (omega (arith, few, length-take-le front.0 c.fill.new.buf (omega (arith, few)), c.fill.ensures.size, c.pictures.invariant.size))
-    c.pictures.invariant.in_range c.pictures.invariant.counts c.pictures.invariant.fit c.pictures.invariant.settings
+    (omega (arith, c.in_default.ensures.accepted, c.pictures.invariant.in_range)) c.in_default.ensures.counts c.in_default.ensures.waiting_fit c.in_default.ensures.settings

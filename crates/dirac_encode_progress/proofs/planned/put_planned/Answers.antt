@@ -1,7 +1,7 @@
 use Rattle.std.proofs.Common.{◌∙◌, sym, arith}
 use Rattle.dirac_encode_laws.specs.Fit.{rule_of}
 use Rattle.dirac_encode_progress.specs.Going.{so_far}
-use Rattle.dirac_encode_progress.proofs.Finding.{lists_found, lists_more, lists_told}
+use Rattle.dirac_encode_progress.proofs.Finding.{lists_behind, lists_found, lists_more, lists_told}
 use Rattle.dirac_encode_progress.proofs.Going.{goes_more, goes_told, stops_more}
 use Rattle.dirac_encode_progress.proofs.planned.put_planned.Goals as goal
 
@@ -48,6 +48,10 @@ put_source-requires-clause-planned g c =
 pub put_source-requires-clause-source : goal.put_source-requires-clause-source
 put_source-requires-clause-source g c =
     (lists_found c.plans_can_be_coded.ensures c.args.coder.now.settings.now c.args.ended c.planned.planner c.take.new.self (so_far c.planned.coding) c.in-Some.planned c.in-Some.source c.requires.accepted c.planned.invariant.settings c.planned.invariant.lists c.in-Some.ensures.takes).2
+
+pub put_source-requires-clause-behind : goal.put_source-requires-clause-behind
+put_source-requires-clause-behind g c =
+    lists_behind c.args.coder.now.settings.now c.args.ended c.planned.planner c.take.new.self (so_far c.planned.coding) c.in-Some.planned c.in-Some.source c.planned.invariant.lists c.in-Some.ensures.takes
 
 pub put_source-requires-clause-listed : goal.put_source-requires-clause-listed
 put_source-requires-clause-listed g c =
