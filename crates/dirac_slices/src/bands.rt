@@ -1,9 +1,10 @@
-ghost use Rattle.std.specs.Prelude.{◌≡◌, ◌/◌, ◌<◌, ◌≤◌, ◌∷◌, drop, length, IfOk, IfSome};
+ghost use Rattle.std.specs.Prelude.{◌≡◌, ◌<◌, ◌≤◌, ◌∷◌, drop, length, IfOk, IfSome, None, Ok};
 ghost use Rattle.dirac_sequence_header.specs.Sizes.{plane_height, plane_width};
-ghost use Rattle.dirac_picture.specs.Chains.{sites_among, AreWhole, AreWholePlanes, ReadsPlane};
+ghost use Rattle.dirac_picture.specs.Chains.{AreWhole, AreWholePlanes, ReadsPlane};
 ghost use Rattle.dirac_picture.specs.Fits.{AreBandsOf, IsLayout};
 ghost use Rattle.dirac_rows.specs.Answers.{AnswerRows};
-ghost use Rattle.dirac_slices.specs.Bands.{AreOrientations, ArePlaneSizes, IsChainAt};
+ghost use Rattle.dirac_slices.specs.Bands.{AreOrientations, ArePlaneSizes, IsOrientation, IsOrientationAt};
+ghost use Rattle.dirac_slices.specs.Bands.{IsPlaneRefused};
 
 use crate::places::component_at;
 use dirac_coeffs::Site;
@@ -30,7 +31,6 @@ pub(crate) fn size_of(sequence: &Sequence, component: Component) -> PlaneSize
 }
 
 /// Reads the bands of an orientation of a plane; none where one of them is refused.
-#[tactic(auto, using(crate::proofs::Oriented::size_at))]
 fn read_row(
     alloc: Global,
     found: &FoundPlanes<'_>,
@@ -41,7 +41,7 @@ fn read_row(
     requires found { AreWholePlanes transform.now found.now }
     requires layout { IsLayout transform.now }
     requires sizes { ArePlaneSizes sequence.now }
-    ensures { IfOk result (λ o. IfSome o (IsChainAt sequence.now transform.now found.now row)) }
+    ensures { IfOk result (IsOrientationAt sequence.now transform.now found.now row) }
 {
     let component = component_at(row / 4);
     let size = size_of(sequence, component);
@@ -62,13 +62,11 @@ pub(crate) fn read_rows<R: Threads + Sync, G: RowGate>(
     requires layout { IsLayout transform.now }
     requires sizes { ArePlaneSizes sequence.now }
     requires workers { (1 ≤ workers) × (workers ≤ 64) }
-    ensures { IfOk result (λ v. AnswerRows (λ r o. IfSome o (IsChainAt sequence.now transform.now found.now r)) 12
-        v.items) }
+    ensures { IfOk result (λ v. AnswerRows (IsOrientationAt sequence.now transform.now found.now) 12 v.items) }
 {
     let work = |row: u32| -> Result<Option<Chain>, NoMemory>
         requires { AreWholePlanes transform.now found.now × IsLayout transform.now × ArePlaneSizes sequence.now }
-        ensures { IfOk result (λ o. IfSome o
-            (IsChainAt sequence.entry.now transform.entry.now found.entry.now row)) }
+        ensures { IfOk result (IsOrientationAt sequence.entry.now transform.entry.now found.entry.now row) }
     { read_row(alloc, found, transform, sequence, row) };
     map_rows(rt, alloc, 12, workers, gate, &work)
 }
@@ -79,6 +77,41 @@ fn take_first(rows: &mut Vec<Option<Chain>>) -> Option<Chain>
     ensures { rows.old.items ≡ result ∷ rows.new.items }
 {
     rows.remove(0)
+}
+
+/// The bands of a plane from those of LL, HL, LH and HH; none where one of them is refused.
+fn plane_of(
+    transform: &Transform,
+    size: PlaneSize,
+    sites: &[Option<Site<'_>>],
+    ll: Option<Chain>,
+    hl: Option<Chain>,
+    lh: Option<Chain>,
+    hh: Option<Chain>,
+) -> Result<Option<PlaneBands>, NoMemory>
+    requires sites { AreWhole transform.now sites.now }
+    requires ll { IsOrientation transform.now size.width size.height sites.now 0 ll }
+    requires hl { IsOrientation transform.now size.width size.height sites.now 1 hl }
+    requires lh { IsOrientation transform.now size.width size.height sites.now 2 lh }
+    requires hh { IsOrientation transform.now size.width size.height sites.now 3 hh }
+    ensures plane { IfOk result (λ o. IfSome o (ReadsPlane transform.now size.width size.height sites.now)) }
+    ensures lawful { IfOk result (λ o. IfSome o (AreBandsOf transform.now size.width size.height)) }
+    ensures none { result ≡ Ok None → IsPlaneRefused transform.now size.width size.height sites.now }
+{
+    let Some(ll) = ll else {
+        return Ok(None);
+    };
+    let Some(hl) = hl else {
+        return Ok(None);
+    };
+    let Some(lh) = lh else {
+        return Ok(None);
+    };
+    let Some(hh) = hh else {
+        return Ok(None);
+    };
+    let bands = woven(ll, hl, lh, hh)?;
+    Ok(Some(bands))
 }
 
 /// Takes the bands of a plane from those of its orientations, which are the first four of these; none where one of them
@@ -94,24 +127,12 @@ pub(crate) fn take_plane(
     requires count { 4 ≤ length rows.old.items }
     ensures plane { IfOk result (λ o. IfSome o (ReadsPlane transform.now size.width size.height sites.now)) }
     ensures lawful { IfOk result (λ o. IfSome o (AreBandsOf transform.now size.width size.height)) }
+    ensures none { result ≡ Ok None → IsPlaneRefused transform.now size.width size.height sites.now }
     ensures rest { rows.new.items ≡ drop 4 rows.old.items }
 {
-    let lowest = take_first(rows);
-    let across = take_first(rows);
-    let down = take_first(rows);
-    let both = take_first(rows);
-    let Some(lowest) = lowest else {
-        return Ok(None);
-    };
-    let Some(across) = across else {
-        return Ok(None);
-    };
-    let Some(down) = down else {
-        return Ok(None);
-    };
-    let Some(both) = both else {
-        return Ok(None);
-    };
-    let bands = woven(lowest, across, down, both)?;
-    Ok(Some(bands))
+    let ll = take_first(rows);
+    let hl = take_first(rows);
+    let lh = take_first(rows);
+    let hh = take_first(rows);
+    plane_of(transform, size, sites, ll, hl, lh, hh)
 }

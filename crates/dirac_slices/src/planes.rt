@@ -6,13 +6,15 @@ ghost use Rattle.dirac_picture.specs.Chains.{AreWholePlanes};
 ghost use Rattle.dirac_picture.specs.Fits.{IsLayout, IsPlaneSize, IsResidual, IsTransform};
 ghost use Rattle.dirac_picture.specs.Grammar as grammar;
 ghost use Rattle.dirac_slices.specs.Bands.{residual_of_planes, AreLawfulPlanes, ArePlaneSizes, AreReadAs};
+ghost use Rattle.dirac_slices.specs.Bands.{AreRefused, IsOneRefused, IsOrientationAt};
+ghost use Rattle.dirac_rows.specs.Answers.{AnswerRows};
 
 use crate::bands::{read_rows, size_of, take_plane};
 use crate::small::is_small;
 use dirac_bits::BitReader;
 use dirac_common::{Component, NoMemory, RowGate, Stop};
 use dirac_header::Transform;
-use dirac_picture::{CodedResidual, FoundPlanes, PlaneBands, find_planes, read_planes};
+use dirac_picture::{Chain, CodedResidual, FoundPlanes, PlaneBands, find_planes, read_planes};
 use dirac_sequence_header::Sequence;
 use std::alloc::Global;
 use std::marker::Sync;
@@ -26,23 +28,18 @@ pub struct ThreePlanes {
     pub v: PlaneBands,
 }
 
-/// Reads the bands of a picture whose blocks were found; none where one of them is refused.
-fn read_found<R: Threads + Sync, G: RowGate>(
-    rt: &R,
-    alloc: Global,
+/// The bands of a picture's planes from those of their orientations; none where one of them is refused.
+fn planes_of_rows(
     found: &FoundPlanes<'_>,
     transform: &Transform,
     sequence: &Sequence,
-    workers: u32,
-    gate: &G,
+    mut rows: Vec<Option<Chain>>,
 ) -> Result<Option<ThreePlanes>, NoMemory>
     requires found { AreWholePlanes transform.now found.now }
-    requires layout { IsLayout transform.now }
-    requires sizes { ArePlaneSizes sequence.now }
-    requires workers { (1 ≤ workers) × (workers ≤ 64) }
-    ensures { IfOk result (λ o. IfSome o (AreReadAs sequence.now transform.now found.now)) }
+    requires rows { AnswerRows (IsOrientationAt sequence.now transform.now found.now) 12 rows.items }
+    ensures value { IfOk result (λ o. IfSome o (AreReadAs sequence.now transform.now found.now)) }
+    ensures none { result ≡ Ok None → IsOneRefused sequence.now transform.now found.now }
 {
-    let mut rows = read_rows(rt, alloc, found, transform, sequence, workers, gate)?;
     let luma = size_of(sequence, Component::Y);
     let chroma = size_of(sequence, Component::U);
     let Some(y) = take_plane(transform, luma, found.sites(Component::Y), &mut rows)? else {
@@ -59,7 +56,6 @@ fn read_found<R: Threads + Sync, G: RowGate>(
 
 /// Finds the blocks of a picture's bands, and reads the bands by so many workers, each by itself; none where a block
 /// isn't found or a band is refused, and then the reader stands where it stood.
-#[tactic(auto, using(crate::proofs::Oriented::planes_read))]
 fn read_apart<R: Threads + Sync, G: RowGate>(
     rt: &R,
     alloc: Global,
@@ -75,14 +71,16 @@ fn read_apart<R: Threads + Sync, G: RowGate>(
     ensures value { IfOk result (λ o. IfSome o (λ p. read (grammar.planes sequence.now transform.now) r.old
         ≡ Ok (residual_of_planes transform.now p, r.new))) }
     ensures lawful { IfOk result (λ o. IfSome o (AreLawfulPlanes sequence.now transform.now)) }
-    ensures none { result ≡ Ok None → r.new ≡ r.old }
+    ensures none { result ≡ Ok None → AreRefused sequence.now transform.now r.old }
+    ensures back { result ≡ Ok None → r.new ≡ r.old }
     ensures kept { r.new.bytes ≡ r.old.bytes }
 {
     let mut behind = r.again();
     let Some(found) = find_planes(alloc, &mut behind, transform)? else {
         return Ok(None);
     };
-    let Some(planes) = read_found(rt, alloc, &found, transform, sequence, workers, gate)? else {
+    let rows = read_rows(rt, alloc, &found, transform, sequence, workers, gate)?;
+    let Some(planes) = planes_of_rows(&found, transform, sequence, rows)? else {
         return Ok(None);
     };
     *r = behind;
@@ -93,7 +91,6 @@ fn read_apart<R: Threads + Sync, G: RowGate>(
 /// first; then each worker reads the bands of one orientation of a plane at a time, from the lowest level on, since a
 /// band's parent is of its own orientation. Where a block isn't found or a band is refused, all are read once more one
 /// after another, so that the first refusal is named. One worker, and a small picture, are spared all this.
-#[tactic(auto, using(crate::proofs::Oriented::residual_fits))]
 pub fn read_planes_rows<R: Threads + Sync, G: RowGate>(
     rt: &R,
     alloc: Global,

@@ -1,26 +1,39 @@
-use Rattle.dirac_slices.proofs.Oriented.{plane_read, same_lengths}
+use Rattle.std.proofs.Common.{length, ap, arith}
+use Rattle.dirac_slices.specs.Bands.{IsOrientation}
+use Rattle.dirac_slices.proofs.Oriented.{four, rest_of_four}
 use Rattle.dirac_slices.proofs.bands.take_plane.Goals as goal
 
-pub woven-requires-clause-lh : goal.woven-requires-clause-lh
-woven-requires-clause-lh c =
-    (same_lengths c.args.transform.now c.args.size.width c.args.size.height c.args.sites.now c.args.rows.now.items c.take_first-lowest.new.rows.items c.take_first-across.new.rows.items c.take_first-down.new.rows.items c.take_first-both.new.rows.items
-    _ _ _ _ _ _ _ c.requires.rows c.take_first-lowest.ensures c.take_first-across.ensures c.take_first-down.ensures c.take_first-both.ensures
-    c.in-Some-across.is c.in-Some-down.is c.in-Some-both.is).0
+pub take_first-hl-requires : goal.take_first-hl-requires
+take_first-hl-requires c = omega (arith, c.requires.count, ap length c.take_first-ll.ensures)
 
-pub woven-requires-clause-hh : goal.woven-requires-clause-hh
-woven-requires-clause-hh c =
-    (same_lengths c.args.transform.now c.args.size.width c.args.size.height c.args.sites.now c.args.rows.now.items c.take_first-lowest.new.rows.items c.take_first-across.new.rows.items c.take_first-down.new.rows.items c.take_first-both.new.rows.items
-    _ _ _ _ _ _ _ c.requires.rows c.take_first-lowest.ensures c.take_first-across.ensures c.take_first-down.ensures c.take_first-both.ensures
-    c.in-Some-across.is c.in-Some-down.is c.in-Some-both.is).1
+pub take_first-lh-requires : goal.take_first-lh-requires
+take_first-lh-requires c =
+    omega (arith, c.requires.count, ap length c.take_first-ll.ensures, ap length c.take_first-hl.ensures)
 
-pub returns-clause-plane : goal.returns-clause-plane
-returns-clause-plane c =
-    (plane_read c.args.transform.now c.args.size.width c.args.size.height c.args.sites.now c.args.rows.now.items c.take_first-lowest.new.rows.items c.take_first-across.new.rows.items c.take_first-down.new.rows.items c.take_first-both.new.rows.items
-    _ _ _ _ _ _ _ _ _ c.requires.sites c.requires.rows c.take_first-lowest.ensures c.take_first-across.ensures c.take_first-down.ensures c.take_first-both.ensures
-    c.in-Some.is c.in-Some-across.is c.in-Some-down.is c.in-Some-both.is c.in_ok-bands.ensures).0
+pub take_first-hh-requires : goal.take_first-hh-requires
+take_first-hh-requires c =
+    omega (arith, c.requires.count, ap length c.take_first-ll.ensures, ap length c.take_first-hl.ensures, ap length c.take_first-lh.ensures)
 
-pub returns-clause-lawful : goal.returns-clause-lawful
-returns-clause-lawful c =
-    (plane_read c.args.transform.now c.args.size.width c.args.size.height c.args.sites.now c.args.rows.now.items c.take_first-lowest.new.rows.items c.take_first-across.new.rows.items c.take_first-down.new.rows.items c.take_first-both.new.rows.items
-    _ _ _ _ _ _ _ _ _ c.requires.sites c.requires.rows c.take_first-lowest.ensures c.take_first-across.ensures c.take_first-down.ensures c.take_first-both.ensures
-    c.in-Some.is c.in-Some-across.is c.in-Some-down.is c.in-Some-both.is c.in_ok-bands.ensures).1
+pub plane_of-requires-clause-ll : goal.plane_of-requires-clause-ll
+plane_of-requires-clause-ll c =
+    (four (IsOrientation c.args.transform.now c.args.size.width c.args.size.height c.args.sites.now) _ _ _ _ _ _ _ _ _ c.requires.rows
+    c.take_first-ll.ensures c.take_first-hl.ensures c.take_first-lh.ensures c.take_first-hh.ensures).0
+
+pub plane_of-requires-clause-hl : goal.plane_of-requires-clause-hl
+plane_of-requires-clause-hl c =
+    (four (IsOrientation c.args.transform.now c.args.size.width c.args.size.height c.args.sites.now) _ _ _ _ _ _ _ _ _ c.requires.rows
+    c.take_first-ll.ensures c.take_first-hl.ensures c.take_first-lh.ensures c.take_first-hh.ensures).1
+
+pub plane_of-requires-clause-lh : goal.plane_of-requires-clause-lh
+plane_of-requires-clause-lh c =
+    (four (IsOrientation c.args.transform.now c.args.size.width c.args.size.height c.args.sites.now) _ _ _ _ _ _ _ _ _ c.requires.rows
+    c.take_first-ll.ensures c.take_first-hl.ensures c.take_first-lh.ensures c.take_first-hh.ensures).2
+
+pub plane_of-requires-clause-hh : goal.plane_of-requires-clause-hh
+plane_of-requires-clause-hh c =
+    (four (IsOrientation c.args.transform.now c.args.size.width c.args.size.height c.args.sites.now) _ _ _ _ _ _ _ _ _ c.requires.rows
+    c.take_first-ll.ensures c.take_first-hl.ensures c.take_first-lh.ensures c.take_first-hh.ensures).3
+
+pub returns-clause-rest : goal.returns-clause-rest
+returns-clause-rest c =
+    rest_of_four _ _ _ _ _ _ _ _ _ c.take_first-ll.ensures c.take_first-hl.ensures c.take_first-lh.ensures c.take_first-hh.ensures
