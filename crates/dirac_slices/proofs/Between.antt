@@ -1,14 +1,15 @@
 -- Rows of a picture's samples, from rows of its residual and of what is predicted; and where its parts begin.
-use Rattle.std.proofs.Common.{◌≡◌, ℕ, ℤ, pos, ◌+◌, ◌-◌, ◌*◌, ◌/◌, ◌<◌, ◌≤◌, ◌≢◌, ◌+ℤ◌, ◌++◌, List, Option, None, Some, ap, ap₂, sym, ◌∙◌, arith, refl, length, drop}
-use Rattle.std.proofs.Math.Nat.{div-mul-le_self}
+use Rattle.std.proofs.Common.{◌≡◌, ℕ, ℤ, pos, ◌+◌, ◌-◌, ◌*◌, ◌/◌, ◌<◌, ◌≤◌, ◌+ℤ◌, ◌++◌, List, Option, None, Some, replicate, ap, ap₂, sym, ◌∙◌, arith, refl, length, drop}
+use Rattle.std.proofs.Math.Nat.{div-mul-le_self, le_trans, mul-le-mul_left}
 use Rattle.std.proofs.lemmas.List.{length-map, length-replicate, take_at}
 use Rattle.std.proofs.lemmas.List.FromFn.{length-map-range_with_len}
-use Rattle.std.proofs.lemmas.Nat.{div-mul-add, le-div, mul-le}
+use Rattle.std.proofs.lemmas.Nat.{div-mul-add, le-div}
 use Rattle.std.proofs.lemmas.Simd.{length-zip2}
 use Rattle.dirac_common.specs.declared.formats.Component.{Component}
 use Rattle.dirac_common.specs.declared.formats.Component.TheVariants as component
 use Rattle.dirac_common.specs.declared.formats.Kind.{Kind}
 use Rattle.dirac_common.specs.declared.formats.Kind.TheVariants.{Intra as OfIntra, Inter as OfInter}
+use Rattle.dirac_common.specs.declared.picture.Picture.{Picture}
 use Rattle.dirac_common.specs.Samples.{clip}
 use Rattle.dirac_common.specs.Table.{Table, filled, table_at, table_of, with_values}
 use Rattle.dirac_sequence_header.specs.declared.sequence.Sequence.{Sequence}
@@ -24,7 +25,7 @@ use Rattle.dirac_slices.specs.declared.intra.Intra.{Intra}
 use Rattle.dirac_slices.specs.declared.filled.Parts.{Parts}
 use Rattle.dirac_slices.specs.Basis.{planes_of, basis_sequence, IsBasis}
 use Rattle.dirac_slices.specs.Given.{lent_inter, Lent, predicted_between}
-use Rattle.dirac_slices.specs.Parts.{back_of, first_half_of, part_values, room_in, AreFilled, AreSomeParts, HaveRoom}
+use Rattle.dirac_slices.specs.Parts.{back_of, first_half_of, first_row_of_parts, part_values, room_in, row_to, AreFilled, AreSomeParts, HaveRoom}
 use Rattle.dirac_slices.specs.Places.{first_row}
 use Rattle.dirac_slices.specs.Samples.{intra_planes, inter_planes, samples_between, values_between, FitPlanes, FitsPlane}
 use Rattle.dirac_slices.proofs.Strips.{clip_strip, filled_length, from_first, sum_strip, room_joined, told, values_joined}
@@ -120,28 +121,20 @@ predicted_length g c predicted from to is =
 
 -- the first rows of parts stand in order
 pub rows_grow : (h all n m : ℕ) → 0 < all → n ≤ m → first_row h all n ≤ first_row h all m
-rows_grow h all n m some l = le-div (h * n / all) (h * m) all some (omega (arith, div-mul-le_self (h * n) all, mul-le h n h m (omega arith) l))
+unfolding first_row
+rows_grow h all n m some l = le-div (h * n / all) (h * m) all some (le_trans (div-mul-le_self (h * n) all) (mul-le-mul_left h l))
 
 -- no part begins before the first row, and the last one ends with the last row
 pub rows_begin : (h all : ℕ) → 0 < all → first_row h all 0 ≡ 0
+unfolding first_row
 rows_begin h all some = let none : h * 0 ≡ 0 * all + 0 = omega arith in ap (λ n. n / all) none ∙ div-mul-add 0 all 0 some
 
 pub rows_end : (h all : ℕ) → 0 < all → first_row h all all ≡ h
+unfolding first_row
 rows_end h all some = let whole : h * all ≡ h * all + 0 = omega arith in ap (λ n. n / all) whole ∙ div-mul-add h all 0 some
 
 pub rows_inside : (h all n : ℕ) → 0 < all → n ≤ all → first_row h all n ≤ h
 rows_inside h all n some l = let at_most : first_row h all n ≤ first_row h all all = rows_grow h all n all some l in omega (arith, at_most, rows_end h all some)
-
--- the halves of some parts are parts
-pub are_front : (p : Parts) → AreSomeParts p → p.end - p.first ≢ 1 → AreSomeParts (first_half_of p)
-are_front p are more =
-    let some = are.some in let inside = are.inside in
-    record { some = omega arith; inside = omega arith; at_most_64 = are.at_most_64 }
-
-pub are_back : (p : Parts) → AreSomeParts p → p.end - p.first ≢ 1 → AreSomeParts (back_of p)
-are_back p are more =
-    let some = are.some in let inside = are.inside in
-    record { some = omega arith; inside = are.inside; at_most_64 = are.at_most_64 }
 
 -- the rows of the halves stand in order
 rows_halve : (h : ℕ) (p : Parts) → AreSomeParts p → (first_row h p.all p.first ≤ first_row h p.all (first_half_of p).end) × (first_row h p.all (first_half_of p).end ≤ first_row h p.all p.end)
@@ -152,14 +145,30 @@ rows_halve h p are =
 
 -- the halves have as much room together
 pub room_halved : (s : Sequence) (p : Parts) (c : Component) → AreSomeParts p → room_in s (first_half_of p) c + room_in s (back_of p) c ≡ room_in s p c
+unfolding room_in
 room_halved s p c are =
     let h = height_of s c in
     let order = rows_halve h p are in
     room_joined (width_of s c) (first_row h p.all p.first) (first_row h p.all (first_half_of p).end) (first_row h p.all p.end) order.0 order.1
 
+-- as many values stand in parts as in their rows
+pub room_of_rows : (s : Sequence) (p : Parts) (c : Component) (from to n : ℕ) → from ≡ first_row_of_parts s p c → to ≡ row_to s p c → n ≡ width_of s c * (to - from) → n ≡ room_in s p c
+unfolding room_in
+room_of_rows s p c from to n ef et e = e ∙ ap₂ (λ a b. width_of s c * (b - a)) ef et
+
+pub rows_of_room : (s : Sequence) (p : Parts) (c : Component) (from to n : ℕ) → from ≡ first_row_of_parts s p c → to ≡ row_to s p c → n ≡ room_in s p c → n ≡ width_of s c * (to - from)
+unfolding room_in
+rows_of_room s p c from to n ef et e = e ∙ sym (ap₂ (λ a b. width_of s c * (b - a)) ef et)
+
+pub part_of_rows : (s : Sequence) (planes : Component → Table) (p : Parts) (c : Component) (from to : ℕ) (xs : List ℤ) → from ≡ first_row_of_parts s p c → to ≡ row_to s p c
+    → xs ≡ values_between s planes c from to → xs ≡ part_values s planes p c
+unfolding part_values
+part_of_rows s planes p c from to xs ef et e = e ∙ ap₂ (λ a b. values_between s planes c a b) ef et
+
 -- and hold together what all parts hold
 part_joined : (s : Sequence) (planes : Component → Table) (p : Parts) (c : Component) → IsSequence s → AreSomeParts p
     → part_values s planes (first_half_of p) c ++ part_values s planes (back_of p) c ≡ part_values s planes p c
+unfolding part_values
 part_joined s planes p c lawful are =
     let h = height_of s c in
     let order = rows_halve h p are in
@@ -173,16 +182,10 @@ filled_halves s planes p ys us vs ys' us' vs' lawful are front back = record {
   v = ap₂ ◌++◌ front.v back.v ∙ part_joined s planes p component.V lawful are;
 }
 
--- a list in two parts, of which the first is as long as the first half
-pub room_front : (s : Sequence) (p : Parts) (c : Component) (n : ℕ) (xs : List ℤ) → AreSomeParts p → n ≡ room_in s (first_half_of p) c → length xs ≡ room_in s p c → n ≤ length xs
-room_front s p c n xs are is long = omega (arith, is, long, room_halved s p c are)
-
-pub room_back : (s : Sequence) (p : Parts) (c : Component) (n : ℕ) (xs ys : List ℤ) → AreSomeParts p → n ≡ room_in s (first_half_of p) c → length xs ≡ room_in s p c → length ys + n ≡ length xs → length ys ≡ room_in s (back_of p) c
-room_back s p c n xs ys are is long rest = omega (arith, is, long, rest, room_halved s p c are)
-
 -- a plane that all parts were written to
-pub plane_written : (s : Sequence) (planes : Component → Table) (c : Component) (all : ℕ) (t : Table) (ws : List ℤ) → IsSequence s → FitsPlane s c (planes c) → FitsPlane s c t → 0 < all
-    → ws ≡ values_between s planes c (first_row (height_of s c) all 0) (first_row (height_of s c) all all) → record { width = t.width; height = t.height; values = ws } ≡ planes c
+plane_written : (s : Sequence) (planes : Component → Table) (c : Component) (all : ℕ) (t : Table) (ws : List ℤ) → IsSequence s → FitsPlane s c (planes c) → FitsPlane s c t → 0 < all
+    → ws ≡ part_values s planes (record { first = 0; end = all; all = all }) c → record { width = t.width; height = t.height; values = ws } ≡ planes c
+unfolding part_values
 plane_written s planes c all t ws lawful fits room some written =
     let w = width_of s c in
     let h = height_of s c in
@@ -204,24 +207,9 @@ pub basis_fit : (b : Basis) → FitPlanes (basis_sequence b) (planes_of b)
 basis_fit (FromIntra i) = intra_fit i.intra.now
 basis_fit (FromInter i) = inter_fit (lent_inter i.inter.now)
 
--- a picture that all parts were written to
-pub picture_written : (b : Basis) (all : ℕ) (y u v : Table) (ys us vs : List ℤ) → IsBasis b → 0 < all
-    → FitsPlane (basis_sequence b) component.Y y → FitsPlane (basis_sequence b) component.U u → FitsPlane (basis_sequence b) component.V v
-    → AreFilled (basis_sequence b) (planes_of b) (record { first = 0; end = all; all = all }) ys us vs
-    → (record { width = y.width; height = y.height; values = ys } ≡ planes_of b component.Y)
-    × (record { width = u.width; height = u.height; values = us } ≡ planes_of b component.U)
-    × (record { width = v.width; height = v.height; values = vs } ≡ planes_of b component.V)
-picture_written b all y u v ys us vs is some fy fu fv full =
-    let s = basis_sequence b in
-    let lawful = basis_lawful b is in
-    let fit = basis_fit b in (
-      plane_written s (planes_of b) component.Y all y ys lawful (fit component.Y) fy some full.y,
-      plane_written s (planes_of b) component.U all u us lawful (fit component.U) fu some full.u,
-      plane_written s (planes_of b) component.V all v vs lawful (fit component.V) fv some full.v,
-    )
-
 -- and there is room for all parts in planes of the right sizes
 room_whole : (s : Sequence) (c : Component) (all : ℕ) (t : Table) → 0 < all → FitsPlane s c t → length t.values ≡ room_in s (record { first = 0; end = all; all = all }) c
+unfolding room_in
 room_whole s c all t some fits =
     let begins = rows_begin (height_of s c) all some in
     let ends = rows_end (height_of s c) all some in
@@ -237,15 +225,12 @@ have_room s all y u v some fy fu fv = record {
 }
 
 -- a plane whose samples are all written
-written : (t : Table) (ws : List ℤ) → length ws ≡ length t.values → with_values t ws ≡ record { width = t.width; height = t.height; values = ws }
-written t ws len = ap (λ (vs : List ℤ). record { width = t.width; height = t.height; values = vs }) (take_at ws (drop (length ws) t.values) (length t.values) len)
-
-written_long : (s : Sequence) (planes : Component → Table) (c : Component) (all : ℕ) (t : Table) (ws : List ℤ) → 0 < all → FitsPlane s c t → ws ≡ part_values s planes (record { first = 0; end = all; all = all }) c
-    → length ws ≡ length t.values
-written_long s planes c all t ws some fits is =
-    let from = first_row (height_of s c) all 0 in
-    let to = first_row (height_of s c) all all in
-    ap length is ∙ filled_length (width_of s c) (to - from) (λ x y. table_at (planes c) x (from + y)) ∙ sym (room_whole s c all t some fits)
+plane_whole_of : (s : Sequence) (planes : Component → Table) (c : Component) (all : ℕ) (t : Table) (ws : List ℤ) → IsSequence s → FitsPlane s c (planes c) → FitsPlane s c t → 0 < all
+    → ws ≡ part_values s planes (record { first = 0; end = all; all = all }) c → with_values t ws ≡ planes c
+plane_whole_of s planes c all t ws lawful fits room some is =
+    let whole = plane_written s planes c all t ws lawful fits room some is in
+    let long : length ws ≡ length t.values = ap (λ (u : Table). length u.values) whole ∙ fits.whole ∙ sym room.whole in
+    ap (λ (vs : List ℤ). record { width = t.width; height = t.height; values = vs }) (take_at ws (drop (length ws) t.values) (length t.values) long) ∙ whole
 
 -- the planes of a picture
 pub planes_written : (b : Basis) (all : ℕ) (y u v : Table) (ys us vs : List ℤ) → IsBasis b → 0 < all
@@ -254,9 +239,32 @@ pub planes_written : (b : Basis) (all : ℕ) (y u v : Table) (ys us vs : List �
     → (with_values y ys ≡ planes_of b component.Y) × (with_values u us ≡ planes_of b component.U) × (with_values v vs ≡ planes_of b component.V)
 planes_written b all y u v ys us vs is some fy fu fv full =
     let s = basis_sequence b in
-    let planes = planes_of b in
-    let whole = picture_written b all y u v ys us vs is some fy fu fv full in (
-      written y ys (written_long s planes component.Y all y ys some fy full.y) ∙ whole.0,
-      written u us (written_long s planes component.U all u us some fu full.u) ∙ whole.1,
-      written v vs (written_long s planes component.V all v vs some fv full.v) ∙ whole.2,
+    let lawful = basis_lawful b is in
+    let fit = basis_fit b in (
+      plane_whole_of s (planes_of b) component.Y all y ys lawful (fit component.Y) fy some full.y,
+      plane_whole_of s (planes_of b) component.U all u us lawful (fit component.U) fu some full.u,
+      plane_whole_of s (planes_of b) component.V all v vs lawful (fit component.V) fv some full.v,
     )
+
+-- as many values stand in rows
+pub samples_long : (s : Sequence) (planes : Component → Table) (c : Component) (from to : ℕ) (t : Table) → t ≡ samples_between s planes c from to → length t.values ≡ width_of s c * (to - from)
+samples_long s planes c from to t is = ap (λ (u : Table). length u.values) is ∙ filled_length (width_of s c) (to - from) (λ x y. table_at (planes c) x (from + y))
+
+-- room for a plane
+pub room_made : (s : Sequence) (c : Component) (w h : ℕ) (t : Table) → w ≡ width_of s c → h ≡ height_of s c → t ≡ record { width = w; height = h; values = replicate (w * h) (pos 0) } → FitsPlane s c t
+room_made s c w h t ew eh is = record {
+  across = ap (λ (u : Table). u.width) is ∙ ew;
+  down = ap (λ (u : Table). u.height) is ∙ eh;
+  whole = ap (λ (u : Table). length u.values) is ∙ length-replicate (w * h) (pos 0) ∙ ap₂ (λ a b. a * b) ew eh;
+}
+
+-- the rows of a plane by other names
+pub height_is : (s r : Sequence) (c d : Component) (h : ℕ) → h ≡ height_of r d → r ≡ s → d ≡ c → h ≡ height_of s c
+height_is s r c d h e es ed = e ∙ ap₂ height_of es ed
+
+-- a picture by its planes
+abbrev pub picture_from : ℕ → Table → Table → Table → Picture
+picture_from n y u v = record { number = n; y = y; u = u; v = v }
+
+pub same_picture : (n : ℕ) (y y' u u' v v' : Table) → y ≡ y' → u ≡ u' → v ≡ v' → picture_from n y u v ≡ picture_from n y' u' v'
+same_picture n y y' u u' v v' ey eu ev = ap (λ a. picture_from n a u v) ey ∙ ap (λ b. picture_from n y' b v) eu ∙ ap (λ d. picture_from n y' u' d) ev

@@ -31,7 +31,7 @@ abbrev pub row_to : Sequence → Parts → Component → ℕ
 row_to s p c = first_row (height_of s c) p.all p.end
 
 -- how many samples of a plane stand in them
-abbrev pub room_in : Sequence → Parts → Component → ℕ
+unfoldable pub room_in : Sequence → Parts → Component → ℕ
 room_in s p c = width_of s c * (row_to s p c - first_row_of_parts s p c)
 
 -- lists as long as these parts of the planes Y, U, V
@@ -47,7 +47,7 @@ pub record IsRoomForPicture (s : Sequence) (p : Picture) : Type 0 where
   pub v : FitsPlane s component.V p.v
 
 -- these parts of a plane
-abbrev pub part_values : Sequence → (Component → Table) → Parts → Component → List ℤ
+unfoldable pub part_values : Sequence → (Component → Table) → Parts → Component → List ℤ
 part_values s planes p c = values_between s planes c (first_row_of_parts s p c) (row_to s p c)
 
 -- lists that hold these parts of the planes Y, U, V

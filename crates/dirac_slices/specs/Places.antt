@@ -10,5 +10,5 @@ component_at (suc zero) = component.U
 component_at (suc (suc n)) = component.V
 
 -- the first row of part n, from 0, where so many rows are cut in `all` parts
-abbrev pub first_row : ℕ → ℕ → ℕ → ℕ
+unfoldable pub first_row : ℕ → ℕ → ℕ → ℕ
 first_row height all n = height * n / all

@@ -22,10 +22,13 @@ pub record IsIntra (i : Intra) : Type 0 where
 abbrev pub intra_planes : Intra → Component → Table
 intra_planes i c = intra_samples i.sequence.now i.residual.now c
 
+-- the residual of its plane of this number
+pub record IsResidualAt (i : Intra) (plane : ℕ) (t : Table) : Type 0 where
+  pub is : t ≡ residual_among i.sequence.now OfIntra (component_at plane) i.residual.now
+
 -- the residuals of its planes Y, U, V
 abbrev pub AreResiduals : Intra → List Table → Type 0
-AreResiduals i items =
-    AnswerRows (λ r t. t ≡ residual_among i.sequence.now OfIntra (component_at r) i.residual.now) 3 items
+AreResiduals i items = AnswerRows (IsResidualAt i) 3 items
 
 -- the planes of an inter picture's samples
 abbrev pub inter_planes : Lent → Component → Table

@@ -1,12 +1,12 @@
 ghost use Rattle.std.specs.Prelude.{◌≡◌, ◌+◌, ◌*◌, ◌<◌, ◌≤◌, IfOk, IfSome};
 ghost use Rattle.dirac_sequence_header.specs.Lawful.{IsSequence};
 ghost use Rattle.dirac_picture.specs.Fits.{IsResidual};
-ghost use Rattle.dirac_common.specs.declared.formats.Kind.TheVariants.{Intra as OfIntra};
 ghost use Rattle.dirac_content.specs.Content as content;
 ghost use Rattle.dirac_content.specs.Predicting as predicting;
 ghost use Rattle.dirac_rows.specs.Answers.{AnswerRows};
 ghost use Rattle.dirac_slices.specs.Places as places;
 ghost use Rattle.dirac_slices.specs.Samples.{intra_planes as planes_of, samples_between, AreResiduals, IsIntra};
+ghost use Rattle.dirac_slices.specs.Samples.{IsResidualAt};
 
 use crate::assembled::assembled;
 use crate::basis::{Basis, IntraBasis, Making};
@@ -73,8 +73,7 @@ fn unfinished_at<'a>(
     plane: u32,
 ) -> Result<Unfinished<'a>, NoMemory>
     requires intra { IsIntra intra.now }
-    ensures { IfOk result (λ t. t ≡ content.residual_among intra.now.sequence.now OfIntra (places.component_at plane)
-        intra.now.residual.now) }
+    ensures { IfOk result (IsResidualAt intra.now plane) }
 {
     unfinished_of(
         alloc,
@@ -99,8 +98,7 @@ fn unfinished_rows<'a, R: Threads + Sync, G: RowGate>(
 {
     let work = |plane: u32| -> Result<Unfinished<'_>, NoMemory>
         requires { IsIntra intra.now }
-        ensures { IfOk result (λ t. t ≡ content.residual_among intra.entry.now.sequence.now OfIntra
-            (places.component_at plane) intra.entry.now.residual.now) }
+        ensures { IfOk result (IsResidualAt intra.entry.now plane) }
     { unfinished_at(alloc, intra, plane) };
     map_rows(rt, alloc, 3, workers, gate, &work)
 }

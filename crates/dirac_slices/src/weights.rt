@@ -55,8 +55,7 @@ fn weights_in(
     ensures { IfOk result (λ w. w ≡ columns_of (compensation_at (lent_inter inter.now) plane)) }
 {
     let motion = motion_at(inter, prepared, plane);
-    let weights = column_weights(alloc, &motion)?;
-    Ok(weights)
+    column_weights(alloc, &motion)
 }
 
 /// The weights of the columns of a picture, which all its parts share.

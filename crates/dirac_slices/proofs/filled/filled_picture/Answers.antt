@@ -1,6 +1,6 @@
-use Rattle.std.proofs.Common.{length, ap, arith, refl, ◌∙◌}
+use Rattle.std.proofs.Common.{length, ap, arith, ◌∙◌}
 use Rattle.dirac_slices.specs.Basis.{basis_sequence}
-use Rattle.dirac_slices.proofs.Between.{have_room, planes_written}
+use Rattle.dirac_slices.proofs.Between.{have_room, planes_written, same_picture}
 use Rattle.dirac_slices.proofs.filled.filled_picture.Goals as goal
 
 pub fill_parts-requires-clause-room : goal.fill_parts-requires-clause-room
@@ -17,4 +17,4 @@ pub returns : goal.returns
 returns g c =
     let r = c.args.room in
     let whole = planes_written c.args.making.now.basis c.args.workers r.y r.u r.v _ _ _ c.requires.basis (omega (arith, c.requires.workers)) c.requires.room.y c.requires.room.u c.requires.room.v c.in_ok-fill_parts.ensures in
-    rw (whole.0, whole.1, whole.2) refl
+    same_picture c.args.number _ _ _ _ _ _ whole.0 whole.1 whole.2
