@@ -12,6 +12,5 @@ mod rows;
 
 pub use answer::{Answer, Unsent};
 pub use laws::pieces_show_what_the_whole_shows;
-pub use push::PushDecoder;
-pub use queue::MOST_SENT;
+pub use push::{MOST_SENT, PushDecoder};
 pub use rows::put_rows;

@@ -16,11 +16,15 @@ use dirac_units::StreamEnd;
 use std::alloc::Global;
 use std::marker::Model;
 
+/// The most bytes that a decoder may be sent in all.
+pub const MOST_SENT: u64 = i64::MAX as u64;
+
 /// A decoder that is sent the bytes of its stream, in pieces of any length.
 #[derive(Drop)]
 pub struct PushDecoder {
     decoder: Decoder,
     queue: Queue,
+    room: u64,
     is_finished: bool,
     shown: Option<Picture>,
     format: Option<Sequence>,
@@ -28,22 +32,23 @@ pub struct PushDecoder {
 
 impl Model for PushDecoder {
     ghost use Rattle.std.specs.Prelude.{◌≡◌, ◌+◌, ◌<◌, ◌^◌, []};
-    ghost use Rattle.dirac_push.specs.Queued.{room_of};
+    ghost use Rattle.dirac_push.specs.Queued.{count_of};
     ghost use Rattle.dirac_push.specs.Pushing.{IsFormat, Pushed};
 
     ghost Value = { Pushed };
 
     ghost view = { λ d. record {
       decoder = d.decoder;
-      there = d.queue.bytes;
-      room = d.queue.room;
+      there = d.queue;
+      room = d.room;
       is_finished = d.is_finished;
       shown = d.shown;
       format = d.format;
     } };
 
     ghost invariant = { λ d. (d.decoder.units.ahead ≡ [])
-        × (d.decoder.units.unit_place.at + room_of d.queue < 2 ^ 63) × IsFormat d.decoder.state.opened d.format };
+        × (d.decoder.units.unit_place.at + count_of d.queue + d.room < 2 ^ 63)
+        × IsFormat d.decoder.state.opened d.format };
 }
 
 impl PushDecoder {
@@ -54,6 +59,7 @@ impl PushDecoder {
         PushDecoder {
             decoder: Decoder::new(alloc),
             queue: Queue::new(alloc),
+            room: MOST_SENT,
             is_finished: false,
             shown: None,
             format: None,
@@ -72,8 +78,14 @@ impl PushDecoder {
         if self.is_finished {
             return Err(Unsent::Finished);
         }
+        if bytes.len() as u64 > self.room {
+            return Err(Unsent::NoMemory);
+        }
         match self.queue.add(bytes) {
-            Ok(()) => Ok(()),
+            Ok(()) => {
+                self.room -= bytes.len() as u64;
+                Ok(())
+            }
             Err(NoMemory) => Err(Unsent::NoMemory),
         }
     }
@@ -112,6 +124,8 @@ impl PushDecoder {
         ensures takes { TakesUnits self.old self.new }
         ensures repeats { RepeatsAnswer result self.old self.new }
         ensures finished_stays { self.new.is_finished ≡ self.old.is_finished }
+        // Bytes that were taken make no room for others.
+        ensures room_stays { self.new.room ≡ self.old.room }
     {
         self.shown = None;
         if let StreamEnd::Stopped = self.decoder.stream_end() {
@@ -134,6 +148,7 @@ impl PushDecoder {
         ensures repeats { IfSome result (λ answer. RepeatsAnswer answer self.old self.new) }
         ensures fits { self.new.decoder.units.unit_place.at < 2 ^ 63 }
         ensures finished_stays { self.new.is_finished ≡ self.old.is_finished }
+        ensures room_stays { self.new.room ≡ self.old.room }
     {
         if let Some(picture) = self.decoder.due_picture() {
             self.shown = Some(picture);
@@ -165,6 +180,7 @@ impl PushDecoder {
         ensures takes { TakesUnits self.old self.new }
         ensures fits { self.new.decoder.units.unit_place.at < 2 ^ 63 }
         ensures finished_stays { self.new.is_finished ≡ self.old.is_finished }
+        ensures room_stays { self.new.room ≡ self.old.room }
     {
         let step = self.decoder.step(&mut self.queue);
         self.format = latest(self.decoder.sequence(), self.format);

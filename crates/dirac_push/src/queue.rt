@@ -1,10 +1,10 @@
-ghost use Rattle.std.specs.Prelude.{◌≡◌, ◌≤◌, ◌<◌, ◌+◌, ◌-◌, ◌^◌, ◌++◌, ◌↔◌, true, length};
+ghost use Rattle.std.specs.Prelude.{◌≡◌, ◌≤◌, ◌<◌, ◌+◌, ◌-◌, ◌^◌, ◌++◌, ◌↔◌, [], true, length};
 ghost use Rattle.std.specs.Prelude.{IfOk, IfErr, IsTrue, Some, pos};
 ghost use Rattle.dirac_io.specs.Faults.{Rose};
 ghost use Rattle.dirac_io.specs.Reading.{IfBytes, GivesFront, MeetsEnd};
 ghost use Rattle.std.specs.Io.KnownBytes.{Keeps};
 ghost use Rattle.dirac_decode.specs.Stepping.{IsWholeUnit};
-ghost use Rattle.dirac_push.specs.Queued.{queue_begun, none_fits, room_of, room_fits};
+ghost use Rattle.dirac_push.specs.Queued.{count_fits, count_of, none_fits};
 
 use dirac_common::NoMemory;
 use dirac_io::{Got, Source};
@@ -12,56 +12,42 @@ use dirac_units::{PARSE_INFO_LENGTH, read_info};
 use std::alloc::Global;
 use std::marker::Model;
 
-/// The most bytes that a decoder may be sent in all.
-pub const MOST_SENT: u64 = i64::MAX as u64;
-
-/// The bytes that were sent and not yet taken, and how many more may be sent. No read fails.
+/// The bytes that were sent and not yet taken. No read fails.
 #[derive(Drop)]
 pub(crate) struct Queue {
     bytes: Vec<u8>,
     from: usize,
-    room: u64,
 }
 
 impl Model for Queue {
-    ghost use Rattle.std.specs.Prelude.{◌≤◌, ◌<◌, ◌+◌, ◌^◌, drop, vec_len};
-    ghost use Rattle.dirac_push.specs.Queued.{Queued};
+    ghost use Rattle.std.specs.Prelude.{ℕ, ◌≤◌, ◌<◌, ◌+◌, ◌^◌, List, drop, vec_len};
 
-    ghost Value = { Queued };
+    ghost Value = { List ℕ };
 
-    ghost view = { λ q. record { bytes = drop q.from q.bytes.items; room = q.room } };
+    ghost view = { λ q. drop q.from q.bytes.items };
 
-    ghost invariant = { λ q. (q.from ≤ vec_len q.bytes) × (q.room + vec_len q.bytes < 2 ^ 63 + q.from) };
+    ghost invariant = { λ q. (q.from ≤ vec_len q.bytes) × (vec_len q.bytes < 2 ^ 63 + q.from) };
 }
 
 impl Queue {
     pub(crate) fn new(alloc: Global) -> Queue
-        ensures { result ≡ queue_begun }
+        ensures { result ≡ [] }
     {
         Queue {
             bytes: Vec::new(alloc),
             from: 0,
-            room: MOST_SENT,
         }
     }
 
     /// Adds bytes behind those that are there. Where there is no memory for them, none is added.
     pub(crate) fn add(&mut self, bytes: &[u8]) -> Result<(), NoMemory>
-        ensures added { IfOk result (λ _. (self.new.bytes ≡ self.old.bytes ++ bytes.now)
-            × (self.new.room + length bytes.now ≡ self.old.room)) }
+        requires { count_of self.old + length bytes.now < 2 ^ 63 }
+        ensures added { IfOk result (λ _. self.new ≡ self.old ++ bytes.now) }
         ensures no_memory { IfErr result (λ _. self.new ≡ self.old) }
     {
-        if bytes.len() as u64 > self.room {
-            return Err(NoMemory);
-        }
         self.close_gap();
-        match self.bytes.extend_from_slice(bytes) {
-            Ok(()) => {
-                self.room -= bytes.len() as u64;
-                Ok(())
-            }
-            Err(_) => Err(NoMemory),
-        }
+        self.bytes.extend_from_slice(bytes)?;
+        Ok(())
     }
 
     /// Drops the bytes that were taken.
@@ -80,7 +66,7 @@ impl Queue {
 
     /// Whether the next unit is there as a whole, or its parse info is, which is refused.
     pub(crate) fn has_unit(&self) -> bool
-        ensures { IsTrue result ↔ IsWholeUnit self.now.bytes }
+        ensures { IsTrue result ↔ IsWholeUnit self.now }
     {
         let rest = &self.bytes[self.from..];
         if rest.len() < PARSE_INFO_LENGTH {
@@ -94,13 +80,13 @@ impl Queue {
 }
 
 impl Source for Queue {
-    ghost held = { λ q. Some q.bytes };
+    ghost held = { λ q. Some q };
 
     ghost faults = { λ _. 0 };
 
-    ghost left = { λ q. room_of q };
+    ghost left = { λ q. count_of q };
 
-    ghost left_fits = { λ q. room_fits q };
+    ghost left_fits = { λ q. count_fits q };
 
     ghost faults_fit = { λ _. none_fits };
 

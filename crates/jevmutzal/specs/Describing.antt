@@ -58,12 +58,13 @@ frame_told answers.NoMemory shown = empty_frame
 frame_told answers.Stopped shown = empty_frame
 
 -- a number and a frame tell an answer that the decoder gave; the end, a fault and a stop are told again; the format
--- is that of the sequence opened last among the units taken; whether the stream was finished stays
+-- is that of the sequence opened last among the units taken; whether the stream was finished stays, and how many bytes
+-- may still be sent
 abbrev pub TellsNext : ℤ → Frame → Pushed → Pushed → Type 0
 TellsNext code frame old new =
     (answer : Answer) × (code ≡ number_of_answer answer) × (frame ≡ frame_told answer new.shown)
     × PushGives answer old new × RepeatsAnswer answer old new × TakesUnits old new
-    × (new.is_finished ≡ old.is_finished)
+    × (new.is_finished ≡ old.is_finished) × (new.room ≡ old.room)
 
 -- the number of a chroma format, as sequence headers have it
 abbrev pub chroma_number : Chroma → ℕ

@@ -6,7 +6,7 @@ use Rattle.dirac_push.proofs.push.PushDecoder.next.Goals as goal
 
 pub units-init : goal.units-init
 units-init c =
-    let old : Pushed = record { decoder = c.self.inside.decoder; there = c.self.inside.queue.bytes; room = c.self.inside.queue.room; is_finished = c.self.inside.is_finished; shown = c.self.inside.shown; format = c.self.inside.format } in
+    let old : Pushed = record { decoder = c.self.inside.decoder; there = c.self.inside.queue; room = c.self.inside.room; is_finished = c.self.inside.is_finished; shown = c.self.inside.shown; format = c.self.inside.format } in
     let new : Pushed = record old { shown = None } in
     record {
       passes = subst (λ (x : Pushed). PushPasses x new [] []) c.self.view_is (passes_same old new refl refl (λ e. e));
@@ -16,6 +16,7 @@ units-init c =
       moving = λ e. c.in_default.not-Stopped (c.stream_end.ensures ∙ e);
       still = λ ne. ap (λ (x : Pushed). record x { shown = None }) c.self.view_is;
       finished = ap (λ (x : Pushed). x.is_finished) c.self.view_is;
+      room = ap (λ (x : Pushed). x.room) c.self.view_is;
       fits = omega (arith, c.self.invariant.1);
     }
 
@@ -30,12 +31,13 @@ units-preserved c =
       moving = gives.4;
       still = still_going c.args.self.now c.units.self c.turn.new.self c.units.invariant.still gives.3;
       finished = c.in_default-turn.ensures.finished_stays ∙ c.units.invariant.finished;
+      room = c.in_default-turn.ensures.room_stays ∙ c.units.invariant.room;
       fits = c.in_default-turn.ensures.fits;
     }
 
 pub returns-in-Stopped-clause-takes : goal.returns-in-Stopped-clause-takes
 returns-in-Stopped-clause-takes c =
-    let old : Pushed = record { decoder = c.self.inside.decoder; there = c.self.inside.queue.bytes; room = c.self.inside.queue.room; is_finished = c.self.inside.is_finished; shown = c.self.inside.shown; format = c.self.inside.format } in
+    let old : Pushed = record { decoder = c.self.inside.decoder; there = c.self.inside.queue; room = c.self.inside.room; is_finished = c.self.inside.is_finished; shown = c.self.inside.shown; format = c.self.inside.format } in
     let new : Pushed = record old { shown = None } in
     subst (λ (x : Pushed). TakesUnits x new) c.self.view_is (takes_same old new refl refl refl refl refl)
 
@@ -45,4 +47,5 @@ returns-in-Some c = record {
   takes = takes_on c.args.self.now c.units.self c.turn.new.self c.units.invariant.takes c.in-Some.ensures.takes;
   repeats = repeats_behind c.in-Some.answer c.args.self.now c.units.self c.turn.new.self c.units.invariant.still c.in-Some.ensures.repeats;
   finished_stays = c.in-Some.ensures.finished_stays ∙ c.units.invariant.finished;
+  room_stays = c.in-Some.ensures.room_stays ∙ c.units.invariant.room;
 }

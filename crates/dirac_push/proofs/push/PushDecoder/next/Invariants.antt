@@ -14,6 +14,7 @@ invariant-units l = record {
   moving : l.self.decoder.stream_end ≡ stream_end.Stopped → ⊥;
   still : Still l.fn.self l.self;
   finished : l.self.is_finished ≡ l.fn.self.is_finished;
+  room : l.self.room ≡ l.fn.self.room;
   fits : l.self.decoder.units.unit_place.at < 2 ^ 63;
 }
 

@@ -10,16 +10,16 @@ use Rattle.dirac_push.proofs.push.PushDecoder.take_unit.Goals as goal
 
 pub returns-in-None-clause-gives : goal.returns-in-None-clause-gives
 returns-in-None-clause-gives c =
-    let old : Pushed = record { decoder = c.self.inside.decoder; there = c.self.inside.queue.bytes; room = c.self.inside.queue.room; is_finished = c.self.inside.is_finished; shown = c.self.inside.shown; format = c.self.inside.format } in
-    let new : Pushed = record { decoder = c.step-step.new.self; there = c.step-step.new.source.bytes; room = c.step-step.new.source.room; is_finished = c.self.inside.is_finished; shown = c.self.inside.shown; format = c.latest-self-inside.result } in
+    let old : Pushed = record { decoder = c.self.inside.decoder; there = c.self.inside.queue; room = c.self.inside.room; is_finished = c.self.inside.is_finished; shown = c.self.inside.shown; format = c.self.inside.format } in
+    let new : Pushed = record { decoder = c.step-step.new.self; there = c.step-step.new.source; room = c.self.inside.room; is_finished = c.self.inside.is_finished; shown = c.self.inside.shown; format = c.latest-self-inside.result } in
     let there = subst (λ (x : Pushed). x.is_finished ≡ false → IsWholeUnit x.there) (sym c.self.view_is) c.requires.there in
     subst (λ (x : Pushed). TurnGives (None) x new) c.self.view_is
     (turn_none old new (c.in-None.ensures.gives, c.in-None.ensures.before_more, c.self.invariant.0, there, refl) (ap (λ (x : Pushed). x.shown) c.self.view_is ∙ c.requires.none_shown))
 
 pub returns-in-Some-Shown-clause-gives : goal.returns-in-Some-Shown-clause-gives
 returns-in-Some-Shown-clause-gives c =
-    let old : Pushed = record { decoder = c.self.inside.decoder; there = c.self.inside.queue.bytes; room = c.self.inside.queue.room; is_finished = c.self.inside.is_finished; shown = c.self.inside.shown; format = c.self.inside.format } in
-    let new : Pushed = record { decoder = c.step-step.new.self; there = c.step-step.new.source.bytes; room = c.step-step.new.source.room; is_finished = c.self.inside.is_finished; shown = Some c.in-Some-Shown.picture; format = c.latest-self-inside.result } in
+    let old : Pushed = record { decoder = c.self.inside.decoder; there = c.self.inside.queue; room = c.self.inside.room; is_finished = c.self.inside.is_finished; shown = c.self.inside.shown; format = c.self.inside.format } in
+    let new : Pushed = record { decoder = c.step-step.new.self; there = c.step-step.new.source; room = c.self.inside.room; is_finished = c.self.inside.is_finished; shown = Some c.in-Some-Shown.picture; format = c.latest-self-inside.result } in
     let there = subst (λ (x : Pushed). x.is_finished ≡ false → IsWholeUnit x.there) (sym c.self.view_is) c.requires.there in
     let going = subst (λ (x : Pushed). x.decoder.stream_end ≡ stream_end.Going) (sym c.self.view_is) c.requires.going in
     subst (λ (x : Pushed). TurnGives (Some answers.Shown) x new) c.self.view_is
@@ -27,24 +27,24 @@ returns-in-Some-Shown-clause-gives c =
 
 pub returns-in-Some-End-clause-gives : goal.returns-in-Some-End-clause-gives
 returns-in-Some-End-clause-gives c =
-    let old : Pushed = record { decoder = c.self.inside.decoder; there = c.self.inside.queue.bytes; room = c.self.inside.queue.room; is_finished = c.self.inside.is_finished; shown = c.self.inside.shown; format = c.self.inside.format } in
-    let new : Pushed = record { decoder = c.step-step.new.self; there = c.step-step.new.source.bytes; room = c.step-step.new.source.room; is_finished = c.self.inside.is_finished; shown = c.self.inside.shown; format = c.latest-self-inside.result } in
+    let old : Pushed = record { decoder = c.self.inside.decoder; there = c.self.inside.queue; room = c.self.inside.room; is_finished = c.self.inside.is_finished; shown = c.self.inside.shown; format = c.self.inside.format } in
+    let new : Pushed = record { decoder = c.step-step.new.self; there = c.step-step.new.source; room = c.self.inside.room; is_finished = c.self.inside.is_finished; shown = c.self.inside.shown; format = c.latest-self-inside.result } in
     let there = subst (λ (x : Pushed). x.is_finished ≡ false → IsWholeUnit x.there) (sym c.self.view_is) c.requires.there in
     subst (λ (x : Pushed). TurnGives (Some answers.End) x new) c.self.view_is
     (turn_end old new (subst (λ (n : Next). StepGives (Some n) old.decoder new.decoder (Some old.there) (Some new.there)) c.in-Some-End.field-0-is c.in-Some-End.ensures.gives, subst (λ (n : Next). IsThere old.decoder.units (Some old.there) → StepGivesBefore (Some n) old.decoder new.decoder (Some old.there) (Some new.there)) c.in-Some-End.field-0-is c.in-Some-End.ensures.before_more, c.self.invariant.0, there, refl) (ap (λ (x : Pushed). x.shown) c.self.view_is ∙ c.requires.none_shown))
 
 pub returns-in-Some-Fault-clause-gives : goal.returns-in-Some-Fault-clause-gives
 returns-in-Some-Fault-clause-gives c =
-    let old : Pushed = record { decoder = c.self.inside.decoder; there = c.self.inside.queue.bytes; room = c.self.inside.queue.room; is_finished = c.self.inside.is_finished; shown = c.self.inside.shown; format = c.self.inside.format } in
-    let new : Pushed = record { decoder = c.step-step.new.self; there = c.step-step.new.source.bytes; room = c.step-step.new.source.room; is_finished = c.self.inside.is_finished; shown = c.self.inside.shown; format = c.latest-self-inside.result } in
+    let old : Pushed = record { decoder = c.self.inside.decoder; there = c.self.inside.queue; room = c.self.inside.room; is_finished = c.self.inside.is_finished; shown = c.self.inside.shown; format = c.self.inside.format } in
+    let new : Pushed = record { decoder = c.step-step.new.self; there = c.step-step.new.source; room = c.self.inside.room; is_finished = c.self.inside.is_finished; shown = c.self.inside.shown; format = c.latest-self-inside.result } in
     let there = subst (λ (x : Pushed). x.is_finished ≡ false → IsWholeUnit x.there) (sym c.self.view_is) c.requires.there in
     subst (λ (x : Pushed). TurnGives (Some (answers.Fault c.in-Some-Fault.fault)) x new) c.self.view_is
     (turn_fault old new c.in-Some-Fault.fault (subst (λ (n : Next). StepGives (Some n) old.decoder new.decoder (Some old.there) (Some new.there)) c.in-Some-Fault.field-0-is c.in-Some-Fault.ensures.gives, subst (λ (n : Next). IsThere old.decoder.units (Some old.there) → StepGivesBefore (Some n) old.decoder new.decoder (Some old.there) (Some new.there)) c.in-Some-Fault.field-0-is c.in-Some-Fault.ensures.before_more, c.self.invariant.0, there, refl) (ap (λ (x : Pushed). x.shown) c.self.view_is ∙ c.requires.none_shown))
 
 pub returns-in-None-clause-takes : goal.returns-in-None-clause-takes
 returns-in-None-clause-takes c =
-    let old : Pushed = record { decoder = c.self.inside.decoder; there = c.self.inside.queue.bytes; room = c.self.inside.queue.room; is_finished = c.self.inside.is_finished; shown = c.self.inside.shown; format = c.self.inside.format } in
-    let new : Pushed = record { decoder = c.step-step.new.self; there = c.step-step.new.source.bytes; room = c.step-step.new.source.room; is_finished = c.self.inside.is_finished; shown = c.self.inside.shown; format = c.latest-self-inside.result } in
+    let old : Pushed = record { decoder = c.self.inside.decoder; there = c.self.inside.queue; room = c.self.inside.room; is_finished = c.self.inside.is_finished; shown = c.self.inside.shown; format = c.self.inside.format } in
+    let new : Pushed = record { decoder = c.step-step.new.self; there = c.step-step.new.source; room = c.self.inside.room; is_finished = c.self.inside.is_finished; shown = c.self.inside.shown; format = c.latest-self-inside.result } in
     let going = subst (λ (x : Pushed). x.decoder.stream_end ≡ stream_end.Going) (sym c.self.view_is) c.requires.going in
     let none_due = subst (λ (x : Pushed). x.decoder.due ≡ []) (sym c.self.view_is) c.requires.none_due in
     subst (λ (x : Pushed). TakesUnits x new) c.self.view_is
@@ -53,8 +53,8 @@ returns-in-None-clause-takes c =
 
 pub returns-in-Some-Shown-clause-takes : goal.returns-in-Some-Shown-clause-takes
 returns-in-Some-Shown-clause-takes c =
-    let old : Pushed = record { decoder = c.self.inside.decoder; there = c.self.inside.queue.bytes; room = c.self.inside.queue.room; is_finished = c.self.inside.is_finished; shown = c.self.inside.shown; format = c.self.inside.format } in
-    let new : Pushed = record { decoder = c.step-step.new.self; there = c.step-step.new.source.bytes; room = c.step-step.new.source.room; is_finished = c.self.inside.is_finished; shown = Some c.in-Some-Shown.picture; format = c.latest-self-inside.result } in
+    let old : Pushed = record { decoder = c.self.inside.decoder; there = c.self.inside.queue; room = c.self.inside.room; is_finished = c.self.inside.is_finished; shown = c.self.inside.shown; format = c.self.inside.format } in
+    let new : Pushed = record { decoder = c.step-step.new.self; there = c.step-step.new.source; room = c.self.inside.room; is_finished = c.self.inside.is_finished; shown = Some c.in-Some-Shown.picture; format = c.latest-self-inside.result } in
     let going = subst (λ (x : Pushed). x.decoder.stream_end ≡ stream_end.Going) (sym c.self.view_is) c.requires.going in
     let none_due = subst (λ (x : Pushed). x.decoder.due ≡ []) (sym c.self.view_is) c.requires.none_due in
     subst (λ (x : Pushed). TakesUnits x new) c.self.view_is
@@ -63,8 +63,8 @@ returns-in-Some-Shown-clause-takes c =
 
 pub returns-in-Some-End-clause-takes : goal.returns-in-Some-End-clause-takes
 returns-in-Some-End-clause-takes c =
-    let old : Pushed = record { decoder = c.self.inside.decoder; there = c.self.inside.queue.bytes; room = c.self.inside.queue.room; is_finished = c.self.inside.is_finished; shown = c.self.inside.shown; format = c.self.inside.format } in
-    let new : Pushed = record { decoder = c.step-step.new.self; there = c.step-step.new.source.bytes; room = c.step-step.new.source.room; is_finished = c.self.inside.is_finished; shown = c.self.inside.shown; format = c.latest-self-inside.result } in
+    let old : Pushed = record { decoder = c.self.inside.decoder; there = c.self.inside.queue; room = c.self.inside.room; is_finished = c.self.inside.is_finished; shown = c.self.inside.shown; format = c.self.inside.format } in
+    let new : Pushed = record { decoder = c.step-step.new.self; there = c.step-step.new.source; room = c.self.inside.room; is_finished = c.self.inside.is_finished; shown = c.self.inside.shown; format = c.latest-self-inside.result } in
     let going = subst (λ (x : Pushed). x.decoder.stream_end ≡ stream_end.Going) (sym c.self.view_is) c.requires.going in
     let none_due = subst (λ (x : Pushed). x.decoder.due ≡ []) (sym c.self.view_is) c.requires.none_due in
     subst (λ (x : Pushed). TakesUnits x new) c.self.view_is
@@ -73,8 +73,8 @@ returns-in-Some-End-clause-takes c =
 
 pub returns-in-Some-Fault-clause-takes : goal.returns-in-Some-Fault-clause-takes
 returns-in-Some-Fault-clause-takes c =
-    let old : Pushed = record { decoder = c.self.inside.decoder; there = c.self.inside.queue.bytes; room = c.self.inside.queue.room; is_finished = c.self.inside.is_finished; shown = c.self.inside.shown; format = c.self.inside.format } in
-    let new : Pushed = record { decoder = c.step-step.new.self; there = c.step-step.new.source.bytes; room = c.step-step.new.source.room; is_finished = c.self.inside.is_finished; shown = c.self.inside.shown; format = c.latest-self-inside.result } in
+    let old : Pushed = record { decoder = c.self.inside.decoder; there = c.self.inside.queue; room = c.self.inside.room; is_finished = c.self.inside.is_finished; shown = c.self.inside.shown; format = c.self.inside.format } in
+    let new : Pushed = record { decoder = c.step-step.new.self; there = c.step-step.new.source; room = c.self.inside.room; is_finished = c.self.inside.is_finished; shown = c.self.inside.shown; format = c.latest-self-inside.result } in
     let going = subst (λ (x : Pushed). x.decoder.stream_end ≡ stream_end.Going) (sym c.self.view_is) c.requires.going in
     let none_due = subst (λ (x : Pushed). x.decoder.due ≡ []) (sym c.self.view_is) c.requires.none_due in
     subst (λ (x : Pushed). TakesUnits x new) c.self.view_is
@@ -83,8 +83,8 @@ returns-in-Some-Fault-clause-takes c =
 
 pub returns-in-Some-NoMemory-clause-takes : goal.returns-in-Some-NoMemory-clause-takes
 returns-in-Some-NoMemory-clause-takes c =
-    let old : Pushed = record { decoder = c.self.inside.decoder; there = c.self.inside.queue.bytes; room = c.self.inside.queue.room; is_finished = c.self.inside.is_finished; shown = c.self.inside.shown; format = c.self.inside.format } in
-    let new : Pushed = record { decoder = c.step-step.new.self; there = c.step-step.new.source.bytes; room = c.step-step.new.source.room; is_finished = c.self.inside.is_finished; shown = c.self.inside.shown; format = c.latest-self-inside.result } in
+    let old : Pushed = record { decoder = c.self.inside.decoder; there = c.self.inside.queue; room = c.self.inside.room; is_finished = c.self.inside.is_finished; shown = c.self.inside.shown; format = c.self.inside.format } in
+    let new : Pushed = record { decoder = c.step-step.new.self; there = c.step-step.new.source; room = c.self.inside.room; is_finished = c.self.inside.is_finished; shown = c.self.inside.shown; format = c.latest-self-inside.result } in
     let going = subst (λ (x : Pushed). x.decoder.stream_end ≡ stream_end.Going) (sym c.self.view_is) c.requires.going in
     let none_due = subst (λ (x : Pushed). x.decoder.due ≡ []) (sym c.self.view_is) c.requires.none_due in
     subst (λ (x : Pushed). TakesUnits x new) c.self.view_is

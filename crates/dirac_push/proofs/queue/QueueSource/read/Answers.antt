@@ -2,7 +2,6 @@ use Rattle.std.proofs.Common.{◌+◌, ap, ◌∙◌, arith, drop, length, lengt
 use Rattle.std.proofs.lemmas.Grind.{common_steps}
 use Rattle.std.proofs.lemmas.List.{take_rest}
 use Rattle.dirac_io.proofs.Parts.{gives_front}
-use Rattle.dirac_push.specs.Queued.{Queued}
 use Rattle.dirac_push.proofs.queue.QueueSource.read.Goals as goal
 
 pub returns-clause-bytes : goal.returns-clause-bytes
@@ -10,7 +9,7 @@ returns-clause-bytes c =
     let n = c.min-n.result in
     let from = c.self.inside.from in
     let items = c.self.inside.bytes.items in
-    let same = ap (λ (q : Queued). q.bytes) c.self.view_is in
+    let same = c.self.view_is in
     let gives =
     gives_front n from (length c.args.buf.now) items _ _ _ c.args.buf.now
     same
@@ -22,5 +21,5 @@ returns-clause-bytes c =
       some = gives.some;
       room = gives.room;
       given = gives.given;
-      lower = omega (arith, ap length same, ap (λ (q : Queued). q.room) c.self.view_is, c.self.invariant.0, c.self.invariant.1, length-drop from items, length-drop (from + n) items);
+      lower = omega (arith, ap length same, c.self.invariant.0, c.self.invariant.1, length-drop from items, length-drop (from + n) items);
     }
