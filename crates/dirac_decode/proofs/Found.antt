@@ -16,6 +16,20 @@ use Rattle.dirac_decode.proofs.Following.{brings_end_more, brings_fault_more, un
 use Rattle.dirac_decode.proofs.Leading.{brings_end, brings_fault, brings_refused, brings_step}
 use Rattle.dirac_decode.proofs.Stepped.{takes_fault, takes_refused, takes_unit}
 
+-- ---- a read failed, or not
+
+pub found_read : {A : Type 0} (a : A) → Ok a ≡ Err halt.ReadFault → ⊥
+found_read a is = cc
+
+pub end_read : (A : Type 0) (r : Result A Halt) → r ≡ Err halt.End → r ≡ Err halt.ReadFault → ⊥
+end_read A r of is = let both : Err halt.End ≡ Err halt.ReadFault = sym of ∙ is in cc
+
+pub fault_read : (A : Type 0) (r : Result A Halt) (fault : Fault) → r ≡ Err (halt.Fault fault) → r ≡ Err halt.ReadFault → ⊥
+fault_read A r fault of is = let both : Err (halt.Fault fault) ≡ Err halt.ReadFault = sym of ∙ is in cc
+
+pub memory_read : (A : Type 0) (r : Result A Halt) → r ≡ Err halt.NoMemory → r ≡ Err halt.ReadFault → ⊥
+memory_read A r of is = let both : Err halt.NoMemory ≡ Err halt.ReadFault = sym of ∙ is in cc
+
 -- ---- no unit was found
 
 pub halt_advances : (h : Halt) (units units' : CuttingProgress) (state : StreamState) (held held' : Option (List ℕ)) → units'.ahead ≡ [] → FindsUnit (Err h) units units' held held' → Advances (Err h) units units' state state held held'

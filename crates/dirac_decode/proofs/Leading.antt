@@ -1,5 +1,5 @@
 -- What one step of the decoder says of the pictures that are still to come.
-use Rattle.std.proofs.Common.{◌≡◌, ◌∙◌, if◌then◌else◌, ℕ, ◌+◌, ◌-◌, ◌^◌, Bool, true, false, List, [], ◌∷◌, Option, None, Some, Ok, Err, refl, sym, ap, subst}
+use Rattle.std.proofs.Common.{◌≡◌, ◌∙◌, if◌then◌else◌, ℕ, ◌+◌, ◌-◌, ◌^◌, ◌<◌, Bool, true, false, List, [], ◌∷◌, Option, None, Some, Ok, Err, refl, sym, ap, subst, arith}
 use Rattle.std.specs.Prelude.{IfSome}
 use Rattle.std.specs.Io.KnownBytes.{prepend_known}
 use Rattle.std.proofs.lemmas.List.{append-nil}
@@ -70,6 +70,10 @@ not_ended e = cc
 
 pub not_faulted : (fault : Fault) → stream_end.Faulted fault ≡ stream_end.Going → ⊥
 not_faulted fault e = cc
+
+-- while units go on none is stopped
+pub not_stopped : (m : StreamEnd) → m ≡ stream_end.Going → m ≡ stream_end.Stopped → ⊥
+not_stopped m going is = let both : stream_end.Going ≡ stream_end.Stopped = sym going ∙ is in cc
 
 -- the outcome of a stream that ends there
 pub ended_outcome : (state : StreamState) (end : Option Fault) (o rest : Outcome) → o ≡ with_front (flushed state.waiting) rest → rest ≡ record { shown = []; most = state.most; end = end } → o ≡ ends_with state end
@@ -178,6 +182,17 @@ turns_left stream_end.Going at = 2 ^ 63 - at
 turns_left stream_end.Ended at = 0
 turns_left (stream_end.Faulted fault) at = 0
 turns_left stream_end.Stopped at = 0
+
+-- fewer behind a unit, and none once something was met
+turns_under : (m' : StreamEnd) (at at' : ℕ) → (m' ≡ stream_end.Going → at < at') → at < 2 ^ 63 → turns_left m' at' < 2 ^ 63 - at
+turns_under stream_end.Going at at' further below = let more : at < at' = further refl in omega arith
+turns_under stream_end.Ended at at' further below = omega arith
+turns_under (stream_end.Faulted fault) at at' further below = omega arith
+turns_under stream_end.Stopped at at' further below = omega arith
+
+pub turns_fall : (m m' : StreamEnd) (at at' : ℕ) → m ≡ stream_end.Going → (m' ≡ stream_end.Going → at < at') → at < 2 ^ 63 → turns_left m' at' < turns_left m at
+turns_fall m m' at at' going further below =
+    subst (λ (x : StreamEnd). turns_left m' at' < turns_left x at) (sym going) (turns_under m' at at' further below)
 
 -- a decoder that drains has the course's greatest length
 pub most_of : (draining : Bool) (state : StreamState) → (if draining then emptied state else state).most ≡ state.most

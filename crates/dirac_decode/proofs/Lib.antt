@@ -10,3 +10,5 @@ pub mod Alone
 pub mod Turning
 pub mod Behind
 pub mod Found
+pub mod Counts
+pub mod Taken

@@ -87,28 +87,15 @@ turn_takes (Err halt.NoMemory) units units' state state' given held held' takes 
 
 -- while units go on more of them can be cut
 turn_going : (taken : Result Step Halt) (units units' : CuttingProgress) → GoesOn taken units units' → (turn_by taken).stream_end ≡ stream_end.Going → units'.stream_end ≡ stream_end.Going
-turn_going (Ok step.On) units units' further going = further.0
-turn_going (Ok (step.Shown p)) units units' further going = further.0
-turn_going (Ok step.Drains) units units' further going = further.0
+turn_going (Ok step) units units' further going = further.0
 turn_going (Err halt.End) units units' further going = absurd (not_ended going)
 turn_going (Err (halt.Fault fault)) units units' further going = absurd (not_faulted fault going)
 turn_going (Err halt.ReadFault) units units' further going = let e : stream_end.Stopped ≡ stream_end.Going = going in cc
 turn_going (Err halt.NoMemory) units units' further going = let e : stream_end.Stopped ≡ stream_end.Going = going in cc
 
-turn_counts : (taken : Result Step Halt) → (turn_by taken).shown ≡ count_shown taken
-turn_counts (Ok step.On) = refl
-turn_counts (Ok (step.Shown p)) = refl
-turn_counts (Ok step.Drains) = refl
-turn_counts (Err halt.End) = refl
-turn_counts (Err (halt.Fault fault)) = refl
-turn_counts (Err halt.ReadFault) = refl
-turn_counts (Err halt.NoMemory) = refl
-
 -- what an answer of a turn, and an end, come from
 turn_ends : (taken : Result Step Halt) → (turn_by taken).stream_end ≡ stream_end.Ended → taken ≡ Err halt.End
-turn_ends (Ok step.On) is = let e : stream_end.Going ≡ stream_end.Ended = is in cc
-turn_ends (Ok (step.Shown p)) is = let e : stream_end.Going ≡ stream_end.Ended = is in cc
-turn_ends (Ok step.Drains) is = let e : stream_end.Going ≡ stream_end.Ended = is in cc
+turn_ends (Ok step) is = let e : stream_end.Going ≡ stream_end.Ended = is in cc
 turn_ends (Err halt.End) is = refl
 turn_ends (Err (halt.Fault fault)) is = let e : stream_end.Faulted fault ≡ stream_end.Ended = is in cc
 turn_ends (Err halt.ReadFault) is = let e : stream_end.Stopped ≡ stream_end.Ended = is in cc
@@ -160,7 +147,7 @@ step_going taken turn units units' made further going =
     turn_going taken units units' further (sym (ap (λ (t : Turn). t.stream_end) made) ∙ going)
 
 pub step_counts : (taken : Result Step Halt) (turn : Turn) → turn ≡ turn_by taken → turn.shown ≡ count_shown taken
-step_counts taken turn made = ap (λ (t : Turn). t.shown) made ∙ turn_counts taken
+step_counts taken turn made = ap (λ (t : Turn). t.shown) made
 
 pub step_ends : (taken : Result Step Halt) (turn : Turn) → turn ≡ turn_by taken → turn.stream_end ≡ stream_end.Ended → taken ≡ Err halt.End
 step_ends taken turn made is = turn_ends taken (sym (ap (λ (t : Turn). t.stream_end) made) ∙ is)
@@ -294,6 +281,22 @@ met_no_memory stream_end.Going is = let e : next.Stopped ≡ next.NoMemory = is 
 met_no_memory stream_end.Ended is = let e : next.End ≡ next.NoMemory = is in cc
 met_no_memory (stream_end.Faulted fault) is = let e : next.Fault fault ≡ next.NoMemory = is in cc
 met_no_memory stream_end.Stopped is = let e : next.Stopped ≡ next.NoMemory = is in cc
+
+-- nor is a picture, or that the decoder was stopped
+pub shown_no_read : (p : Picture) → Some (next.Shown p) ≡ Some next.ReadFault → ⊥
+shown_no_read p is = cc
+
+pub shown_no_memory : (p : Picture) → Some (next.Shown p) ≡ Some next.NoMemory → ⊥
+shown_no_memory p is = cc
+
+pub stopped_no_read : Some next.Stopped ≡ Some next.ReadFault → ⊥
+stopped_no_read is = cc
+
+pub stopped_no_memory : Some next.Stopped ≡ Some next.NoMemory → ⊥
+stopped_no_memory is = cc
+
+pub some_is : (a b : Next) → Some a ≡ Some b → a ≡ b
+some_is a b is = cc
 
 -- what was met isn't answered while a picture is due, and nothing is asked of an answer before something was met
 pub answers_shown : (m : StreamEnd) (due : List Picture) (p : Picture) (rest : List Picture) → (m ≡ stream_end.Stopped → ⊥) → due ≡ p ∷ rest → AnswersWhatWasMet m due (next.Shown p)

@@ -104,19 +104,42 @@ abbrev pub count_shown : Result Step Halt → ℕ
 count_shown (Ok step) = shown_in step
 count_shown (Err halt) = 0
 
+-- what is answered at once: the picture that leaves, or why nothing more is taken
+abbrev pub answered_at_once : Result Step Halt → Option Next
+answered_at_once (Ok step.On) = None
+answered_at_once (Ok (step.Shown p)) = Some (next.Shown p)
+answered_at_once (Ok step.Drains) = None
+answered_at_once (Err halt.End) = None
+answered_at_once (Err (halt.Fault fault)) = None
+answered_at_once (Err halt.ReadFault) = Some next.ReadFault
+answered_at_once (Err halt.NoMemory) = Some next.NoMemory
+
+-- whether all that wait leave: at the end of a sequence and of the stream, and at its first fault
+abbrev pub all_leave : Result Step Halt → Bool
+all_leave (Ok step.On) = false
+all_leave (Ok (step.Shown p)) = false
+all_leave (Ok step.Drains) = true
+all_leave (Err halt.End) = true
+all_leave (Err (halt.Fault fault)) = true
+all_leave (Err halt.ReadFault) = false
+all_leave (Err halt.NoMemory) = false
+
+-- whether units go on, or what was met
+abbrev pub met_by : Result Step Halt → StreamEnd
+met_by (Ok step) = stream_end.Going
+met_by (Err halt.End) = stream_end.Ended
+met_by (Err (halt.Fault fault)) = stream_end.Faulted fault
+met_by (Err halt.ReadFault) = stream_end.Stopped
+met_by (Err halt.NoMemory) = stream_end.Stopped
+
 -- what a decoder makes of what was taken
 abbrev pub turn_by : Result Step Halt → Turn
-turn_by (Ok step.On) = record { answer = None; shown = 0; draining = false; stream_end = stream_end.Going }
-turn_by (Ok (step.Shown p)) =
-    record { answer = Some (next.Shown p); shown = 1; draining = false; stream_end = stream_end.Going }
-turn_by (Ok step.Drains) = record { answer = None; shown = 0; draining = true; stream_end = stream_end.Going }
-turn_by (Err halt.End) = record { answer = None; shown = 0; draining = true; stream_end = stream_end.Ended }
-turn_by (Err (halt.Fault fault)) =
-    record { answer = None; shown = 0; draining = true; stream_end = stream_end.Faulted fault }
-turn_by (Err halt.ReadFault) =
-    record { answer = Some next.ReadFault; shown = 0; draining = false; stream_end = stream_end.Stopped }
-turn_by (Err halt.NoMemory) =
-    record { answer = Some next.NoMemory; shown = 0; draining = false; stream_end = stream_end.Stopped }
+turn_by taken = record {
+  answer = answered_at_once taken;
+  shown = count_shown taken;
+  draining = all_leave taken;
+  stream_end = met_by taken;
+}
 
 -- what is answered once this was met and no picture is due
 abbrev pub answer_by : StreamEnd → Next

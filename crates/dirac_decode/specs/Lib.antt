@@ -6,6 +6,7 @@ pub mod Taking
 pub mod Advancing
 pub use Rattle.dirac_content.specs.Raw
 pub mod Decoded
+pub mod Streamed
 pub use Rattle.dirac_content.specs.Sequences
 pub use Rattle.dirac_content.specs.Predicting
 pub use Rattle.dirac_rebuild.specs.Rebuilding

@@ -1,6 +1,7 @@
 -- What the content of one unit brought, as the decoder's state answers it.
 -- Inner: for the proofs of this crate.
-use Rattle.std.specs.Prelude.{◌≡◌, ℕ, ◌+◌, ◌≤◌, List, [], ◌∷◌, length, Option, None, Some, Result, Ok, Err}
+use Rattle.std.specs.Prelude.{◌≡◌, ℕ, ◌+◌, ◌≤◌, List, [], ◌∷◌, length, Option, None, Some}
+use Rattle.std.specs.Prelude.{Result, Ok, Err, IfErr}
 use Rattle.std.specs.List.{All}
 use Rattle.std.specs.Option.{option_to_list}
 use Rattle.dirac_common.specs.declared.faults.Refusal.{Refusal}
@@ -46,6 +47,14 @@ shown_in step.Drains = 0
 abbrev pub Fewer : Result Step Stop → ℕ → ℕ → Type 0
 Fewer (Ok step) before now = shown_in step + now ≤ before + 1
 Fewer (Err stop) before now = now ≤ before
+
+-- what the content of a unit brings with a payload of so many bytes, or its refusal, placed inside the unit
+pub record Takes (answer : Result Step Stop) (read : Result StreamStep Refusal) (bytes : ℕ) (old new : StreamState)
+    : Type 0 where
+  pub took : IsTook answer read old new
+  pub place_inside : IfErr answer (λ e. IfStopped e (λ (r : Refusal). r.at ≤ 13 + bytes))
+  pub fewer_wait : Fewer answer (length old.waiting) (length new.waiting)
+  pub greatest_never_falls : old.most ≤ new.most
 
 -- the picture of least key left, where one waited
 pub record IsPopped (popped : Option Picture) (old new : StreamState) : Type 0 where

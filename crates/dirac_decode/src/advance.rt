@@ -92,7 +92,7 @@ pub(crate) fn advance_by_unit<
         ≤ units.new.unit_place.index + length state.old.waiting }
     ensures fits { units.new.unit_place.index < 2 ^ 64 }
     ensures greatest_never_falls { state.old.most ≤ state.new.most }
-    ensures whole { result ≡ Err Halt.End → IsAtEnd (S.held source.new) }
+    ensures at_the_end { result ≡ Err Halt.End → IsAtEnd (S.held source.new) }
     ensures part { result ≡ Err Halt.ReadFault → TakesPart units.old (S.held source.old) (S.held source.new) }
     ensures taken { result ≡ Err Halt.NoMemory → TakesSome units.old (S.held source.old) (S.held source.new) }
     ensures read { result ≡ Err Halt.ReadFault → Rose (S.faults source.old) (S.faults source.new) }

@@ -1,4 +1,4 @@
-ghost use Rattle.std.specs.Prelude.{◌≡◌, ℕ, ◌+◌, ◌<◌, ◌≤◌, ◌^◌, length, IfErr, IsTrue, Ok, Option};
+ghost use Rattle.std.specs.Prelude.{◌≡◌, ℕ, ◌<◌, ◌≤◌, ◌^◌, length, IsTrue, Ok, Option};
 ghost use Rattle.dirac_picture.specs.Grammar.{is_picture};
 ghost use Rattle.dirac_picture.specs.Reading.{ReadsPlanes};
 ghost use Rattle.dirac_rebuild.specs.Rebuilding.{Rebuilds};
@@ -6,7 +6,7 @@ ghost use Rattle.dirac_content.specs.StreamState.{as_reference, stream_begun, he
 ghost use Rattle.dirac_content.specs.StreamState.{is_same as same_header};
 ghost use Rattle.dirac_content.specs.StreamState.{first_or as first_of, unit_step, passed, picture_step, shows};
 ghost use Rattle.dirac_decode.specs.Stepping.{opened_sequence};
-ghost use Rattle.dirac_decode.specs.Taking.{Fewer, IfStopped, IsOfOpen, IsPopped, IsTook, Steps};
+ghost use Rattle.dirac_decode.specs.Taking.{IsOfOpen, IsPopped, Takes};
 
 use crate::made::{Rebuilt, make_picture};
 use crate::step::Step;
@@ -99,7 +99,6 @@ impl State {
     }
 
     /// Takes the content of a unit with this parse code.
-    #[tactic(auto, unfolding(dirac_content::specs::StreamState::unit_step))]
     pub(crate) fn take<
         P: Fn(Global, &mut BitReader<'_>, Transform, &Sequence) -> Result<CodedResidual, Stop>,
         F: Fn(Global, &CodedPicture, &Sequence, &RefBuffer) -> Result<Picture, NoMemory>,
@@ -114,10 +113,7 @@ impl State {
         requires reads { ReadsPlanes (P.pre planes.now) (P.post planes.now) }
         requires rebuilds { Rebuilds (F.pre make.now) (F.post make.now) }
         requires below_2_63 { length payload < 2 ^ 63 }
-        ensures took { IsTook result (unit_step self.old code payload) self.old self.new }
-        ensures place_inside { IfErr result (λ e. IfStopped e (λ r. r.at ≤ 13 + length payload)) }
-        ensures fewer_wait { Fewer result (length self.old.waiting) (length self.new.waiting) }
-        ensures greatest_never_falls { self.old.most ≤ self.new.most }
+        ensures { Takes result (unit_step self.old code payload) (length payload) self.old self.new }
     {
         if !fields_are_read(code) {
             return Ok(self.pass(code));
@@ -131,9 +127,7 @@ impl State {
 
     /// Passes over a unit without content, or closes the sequence.
     fn pass(&mut self, code: u8) -> Step
-        ensures took { Steps result (passed self.old code) self.new }
-        ensures fewer_wait { Fewer (Ok result) (length self.old.waiting) (length self.new.waiting) }
-        ensures greatest_never_falls { self.old.most ≤ self.new.most }
+        ensures { Takes (Ok result) (Ok (passed self.old code)) 0 self.old self.new }
     {
         if code == END_OF_SEQUENCE {
             self.opened = None;
@@ -147,10 +141,7 @@ impl State {
     /// Opens a sequence, or compares a repeated header with the open one's.
     fn take_header(&mut self, payload: Payload) -> Result<Step, Stop>
         requires { length payload < 2 ^ 63 }
-        ensures took { IsTook result (header_step self.old self.old.opened payload) self.old self.new }
-        ensures place_inside { IfErr result (λ e. IfStopped e (λ r. r.at ≤ 13 + length payload)) }
-        ensures fewer_wait { Fewer result (length self.old.waiting) (length self.new.waiting) }
-        ensures greatest_never_falls { self.old.most ≤ self.new.most }
+        ensures { Takes result (header_step self.old self.old.opened payload) (length payload) self.old self.new }
     {
         if let Some(opened) = &self.opened {
             if is_same(payload.bytes(), opened.header.bytes()) {
@@ -190,10 +181,8 @@ impl State {
         requires rebuilds { Rebuilds (F.pre make.now) (F.post make.now) }
         requires code { IsTrue (is_picture code) }
         requires below_2_63 { length payload.now < 2 ^ 63 }
-        ensures took { IsTook result (picture_step self.old self.old.opened code payload.now) self.old self.new }
-        ensures place_inside { IfErr result (λ e. IfStopped e (λ r. r.at ≤ 13 + length payload.now)) }
-        ensures fewer_wait { Fewer result (length self.old.waiting) (length self.new.waiting) }
-        ensures greatest_never_falls { self.old.most ≤ self.new.most }
+        ensures { Takes result (picture_step self.old self.old.opened code payload.now) (length payload.now)
+            self.old self.new }
     {
         let Some(opened) = &self.opened else {
             return Err(Stop::Refused(Refusal {
@@ -217,9 +206,7 @@ impl State {
     fn show(&mut self, made: Rebuilt) -> Step
         requires reference { made.reference ≡ as_reference made.coded.code made.picture }
         requires fits { IsOfOpen self.old.opened made.picture }
-        ensures took { Steps result (shows self.old made.coded made.picture) self.new }
-        ensures fewer_wait { Fewer (Ok result) (length self.old.waiting) (length self.new.waiting) }
-        ensures greatest_never_falls { self.old.most ≤ self.new.most }
+        ensures { Takes (Ok result) (Ok (shows self.old made.coded made.picture)) 0 self.old self.new }
     {
         let Rebuilt {
             coded,

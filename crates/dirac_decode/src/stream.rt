@@ -4,6 +4,7 @@ ghost use Rattle.dirac_io.specs.Faults.{Rose};
 ghost use Rattle.dirac_picture.specs.Reading.{ReadsPlanes};
 ghost use Rattle.dirac_decode.specs.Decoding.{decoder_begun};
 ghost use Rattle.dirac_decode.specs.Decoded.{IfDone, IfTally, IsDecodedStream};
+ghost use Rattle.dirac_decode.specs.Streamed.{CountsFaults, IsStreamWritten};
 ghost use Rattle.dirac_content.specs.Leaving.{IsBrokenOff, IsFrontOfRead};
 ghost use Rattle.dirac_rebuild.specs.Rebuilding.{Rebuilds};
 
@@ -96,20 +97,10 @@ fn write_pictures<
     requires reads { ReadsPlanes (P.pre planes.now) (P.post planes.now) }
     requires rebuilds { Rebuilds (F.pre make.now) (F.post make.now) }
     requires new { decoder.old ≡ decoder_begun }
-    ensures decoded { IfSome (S.held source.old)
-        (λ bytes. IsDecodedStream bytes result (K.taken out.old) (K.taken out.new)) }
-    // Where a read failed, just what leaves while the units that were read whole are taken was written.
-    ensures broken_off { result ≡ Decoded.ReadFault → IfSome (S.held source.old) (λ bytes. IsBrokenOff bytes
-        (S.held source.new) (K.taken out.old) (K.taken out.new)) }
-    // Whatever is answered, what was written is a front of what the bytes read show by themselves.
-    ensures front_of_read { IfSome (S.held source.old) (λ bytes. IsFrontOfRead bytes (S.held source.new)
-        (K.taken out.old) (K.taken out.new)) }
-    ensures whole { IfDone result (IsAtEnd (S.held source.new)) }
-    ensures at_most_8_references { IfTally result (λ tally. tally.references ≤ MOST_REFERENCES) }
-    ensures read { result ≡ Decoded.ReadFault → Rose (S.faults source.old) (S.faults source.new) }
-    ensures write { result ≡ Decoded.WriteFault → Rose (K.faults out.old) (K.faults out.new) }
-    ensures reads { S.faults source.old ≤ S.faults source.new }
-    ensures writes { K.faults out.old ≤ K.faults out.new }
+    ensures written { IsStreamWritten result (S.held source.old) (S.held source.new) (K.taken out.old)
+        (K.taken out.new) }
+    ensures faults { CountsFaults result (S.faults source.old) (S.faults source.new) (K.faults out.old)
+        (K.faults out.new) }
 {
     'pictures: loop {
         match decoder.next_picture_by(planes, make, source) {

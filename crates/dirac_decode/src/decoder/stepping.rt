@@ -158,7 +158,7 @@ impl Decoder {
         ensures takes { TakesAs self.new.stream_end result self.old self.new (S.held source.old) (S.held source.new) }
         ensures before_more { IsThere self.old.units (S.held source.old)
             → StepGivesBefore result self.old self.new (S.held source.old) (S.held source.new) }
-        ensures whole { self.new.stream_end ≡ StreamEnd.Ended → IsAtEnd (S.held source.new) }
+        ensures at_the_end { self.new.stream_end ≡ StreamEnd.Ended → IsAtEnd (S.held source.new) }
         ensures broken_off { result ≡ Some Next.ReadFault → BreaksOff self.old (S.held source.old)
             (S.held source.new) }
         ensures stops { result ≡ Some Next.NoMemory → StopsIn self.old (S.held source.old) (S.held source.new) }

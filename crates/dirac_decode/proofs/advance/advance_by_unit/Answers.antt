@@ -1,9 +1,11 @@
-use Rattle.std.proofs.Common.{◌∙◌, ap, arith, refl, Err}
+use Rattle.std.proofs.Common.{◌∙◌, ◌+◌, ◌^◌, ap, length, refl, Err}
 use Rattle.std.specs.Io.KnownBytes.{prepend_known}
 use Rattle.dirac_units.specs.Info.{span_of}
 use Rattle.dirac_content.proofs.Passing.{each_has_a_cut}
 use Rattle.dirac_decode.specs.declared.step.Halt.TheVariants as halt
+use Rattle.dirac_decode.specs.Advancing.{count_shown}
 use Rattle.dirac_decode.proofs.Alone.{unit_taken}
+use Rattle.dirac_decode.proofs.Counts.{le_itself, none_more, one_more, unit_below}
 use Rattle.dirac_decode.proofs.Found.{content_advances, content_advances_before, content_goes_on, content_no_end, content_no_read, content_takes, halt_advances, halt_advances_before, halt_part, halt_same, halt_taken, halt_takes, halt_whole, next_at, next_index}
 use Rattle.dirac_decode.proofs.advance.advance_by_unit.Goals as goal
 
@@ -11,7 +13,8 @@ pub content_of-requires-clause-below_2_63 : goal.content_of-requires-clause-belo
 content_of-requires-clause-below_2_63 g c =
     let held = g.S.Source.held c.args.source.now in
     let held' = g.S.Source.held c.next_unit.new.source in
-    omega (arith, c.requires.no_overflow, c.next_unit.ensures.no_overflow_result, next_at c.in-Ok.unit c.args.units.now c.next_unit.new.units held held' c.in-Ok.ensures.finds.0)
+    unit_below (c.in-Ok.unit.at + 13 + length c.in-Ok.unit.payload) c.next_unit.new.units.unit_place.at (length c.next_unit.new.units.ahead) (g.S.Source.left c.next_unit.new.source)
+    (c.args.units.now.unit_place.at + length c.args.units.now.ahead + g.S.Source.left c.args.source.now) (2 ^ 63) (next_at c.in-Ok.unit c.args.units.now c.next_unit.new.units held held' c.in-Ok.ensures.finds.0) c.next_unit.ensures.no_overflow_result c.requires.no_overflow
 
 pub returns-in-Err : goal.returns-in-Err
 returns-in-Err g c =
@@ -29,10 +32,10 @@ returns-in-Err g c =
       takes = halt_takes h units units' state held held' finds;
       none_ahead = found.none_ahead;
       goes_on = tt;
-      no_more_than_units = omega (arith, found.index);
+      no_more_than_units = none_more units.unit_place.index units'.unit_place.index (length state.waiting) found.index;
       fits = found.fits;
-      greatest_never_falls = omega arith;
-      whole = λ is. halt_whole h units units' held held' finds (halt_same (Err h) (Err halt.End) h halt.End refl refl is);
+      greatest_never_falls = le_itself state.most;
+      at_the_end = λ is. halt_whole h units units' held held' finds (halt_same (Err h) (Err halt.End) h halt.End refl refl is);
       part = λ is. halt_part h units units' held held' finds (halt_same (Err h) (Err halt.ReadFault) h halt.ReadFault refl refl is);
       taken = λ is. halt_taken h units units' held held' finds (halt_same (Err h) (Err halt.NoMemory) h halt.NoMemory refl refl is);
       read = λ is. found.read (c.in-Err.is ∙ ap Err (halt_same (Err h) (Err halt.ReadFault) h halt.ReadFault refl refl is));
@@ -59,10 +62,10 @@ returns-in-Ok g c =
       takes = content_takes answer unit units units' state state' held held' gives has;
       none_ahead = found.none_ahead;
       goes_on = content_goes_on answer unit units units' held held' gives c.in-Ok.ensures.finds.2;
-      no_more_than_units = omega (arith, next_index unit units units' held held' gives, c.content_of.ensures.one_more_at_most);
+      no_more_than_units = one_more units.unit_place.index units'.unit_place.index (count_shown answer) (length state.waiting) (length state'.waiting) (next_index unit units units' held held' gives) c.content_of.ensures.one_more_at_most;
       fits = found.fits;
       greatest_never_falls = c.content_of.ensures.greatest_never_falls;
-      whole = λ is. absurd (content_no_end answer unit state state' has is);
+      at_the_end = λ is. absurd (content_no_end answer unit state state' has is);
       part = λ is. absurd (content_no_read answer unit state state' has is);
       taken = λ is. unit_taken (prepend_known units.ahead held) held' (span_of unit.info) c.in-Ok.ensures.finds.1;
       read = λ is. absurd (content_no_read answer unit state state' has is);

@@ -1,16 +1,11 @@
-use Rattle.std.proofs.Common.{◌≡◌, ◌+◌, ◌-◌, ◌^◌, ◌≤◌, [], length}
-use Rattle.std.specs.Io.KnownBytes.{IsAtEnd}
-use Rattle.dirac_units.specs.declared.unit.StreamEnd.TheVariants as stream_end
-use Rattle.dirac_decode.proofs.Streaming.{IsStreamed}
+use Rattle.std.proofs.Common.{◌+◌, ◌-◌, ◌^◌, ◌≤◌, length}
+use Rattle.dirac_decode.proofs.Streaming.{IsUnderway}
 use Rattle.dirac_decode.proofs.stream.write_pictures.Given as goal
 
 abbrev pub invariant-pictures : goal.invariant-pictures
 invariant-pictures g l = record {
-  streamed : IsStreamed l.decoder (g.S.Source.held l.initial.source) (g.S.Source.held l.source) (g.K.Sink.taken l.initial.out) (g.K.Sink.taken l.out);
-  moving : l.decoder.stream_end ≡ stream_end.Stopped → ⊥;
-  whole : l.decoder.stream_end ≡ stream_end.Ended → IsAtEnd (g.S.Source.held l.source);
+  underway : IsUnderway l.decoder (g.S.Source.held l.initial.source) (g.S.Source.held l.source) (g.K.Sink.taken l.initial.out) (g.K.Sink.taken l.out);
   room : l.decoder.units.unit_place.at + length l.decoder.units.ahead + g.S.Source.left l.source ≤ g.S.Source.left l.initial.source;
-  none_ahead : l.decoder.units.ahead ≡ [];
   reads : g.S.Source.faults l.initial.source ≤ g.S.Source.faults l.source;
   writes : g.K.Sink.faults l.initial.out ≤ g.K.Sink.faults l.out;
 }

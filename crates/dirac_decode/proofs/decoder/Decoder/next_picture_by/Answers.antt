@@ -1,7 +1,8 @@
-use Rattle.std.proofs.Common.{◌∙◌, ap, arith, refl, sym, [], Some}
+use Rattle.std.proofs.Common.{◌∙◌, ◌+◌, ◌^◌, ap, length, refl, sym, [], Some}
 use Rattle.dirac_decode.specs.Decoding.{Decoding}
 use Rattle.dirac_decode.proofs.Behind.{answers_behind, breaks_behind, gives_behind, stops_behind}
-use Rattle.dirac_decode.proofs.Leading.{leads_on, leads_same}
+use Rattle.dirac_decode.proofs.Counts.{below_on, le_itself, le_on, place_below, rose_since}
+use Rattle.dirac_decode.proofs.Leading.{leads_on, leads_same, turns_fall}
 use Rattle.dirac_decode.proofs.decoder.Decoder.next_picture_by.Goals as goal
 
 pub units-init : goal.units-init
@@ -11,14 +12,14 @@ units-init g c = record {
   stopped = λ is. refl;
   still = λ ne. (refl, refl);
   whole = λ at_end is. at_end is;
-  most = omega arith;
-  room = omega arith;
+  most = le_itself c.args.self.now.state.most;
+  room = le_itself (c.args.self.now.units.unit_place.at + length c.args.self.now.units.ahead + g.S.Source.left c.args.source.now);
   ahead = λ none. none;
-  count = omega arith;
+  count = le_itself (g.S.Source.faults c.args.source.now);
 }
 
 pub step_by-requires-clause-no_overflow : goal.step_by-requires-clause-no_overflow
-step_by-requires-clause-no_overflow g c = omega (arith, c.requires.no_overflow, c.units.invariant.room)
+step_by-requires-clause-no_overflow g c = below_on (c.units.self.units.unit_place.at + length c.units.self.units.ahead + g.S.Source.left c.units.source) (c.args.self.now.units.unit_place.at + length c.args.self.now.units.ahead + g.S.Source.left c.args.source.now) (2 ^ 63) c.units.invariant.room c.requires.no_overflow
 
 pub returns-in-Some : goal.returns-in-Some
 returns-in-Some g c =
@@ -40,11 +41,11 @@ returns-in-Some g c =
       broken_off = λ is. breaks_behind a b held held' held'' so.leads (c.step_by.ensures.broken_off (c.in-Some.is ∙ ap Some is));
       stops = λ is. stops_behind a b held held' held'' so.leads (c.step_by.ensures.stops (c.in-Some.is ∙ ap Some is));
       none_ahead = λ none. c.step_by.ensures.none_ahead (so.ahead none);
-      read = λ is. let rose = c.step_by.ensures.read (c.in-Some.is ∙ ap Some is) in omega (arith, so.count, rose);
-      count = omega (arith, so.count, c.step_by.ensures.count);
+      read = λ is. rose_since (g.S.Source.faults c.args.source.now) (g.S.Source.faults c.units.source) (g.S.Source.faults c.step_by.new.source) so.count (c.step_by.ensures.read (c.in-Some.is ∙ ap Some is));
+      count = le_on (g.S.Source.faults c.args.source.now) (g.S.Source.faults c.units.source) (g.S.Source.faults c.step_by.new.source) so.count c.step_by.ensures.count;
       fits = c.step_by.ensures.fits;
-      greatest = omega (arith, so.most, c.step_by.ensures.greatest);
-      no_overflow = omega (arith, so.room, c.step_by.ensures.no_overflow);
+      greatest = le_on a.state.most b.state.most d.state.most so.most c.step_by.ensures.greatest;
+      no_overflow = le_on (d.units.unit_place.at + length d.units.ahead + g.S.Source.left c.step_by.new.source) (b.units.unit_place.at + length b.units.ahead + g.S.Source.left c.units.source) (a.units.unit_place.at + length a.units.ahead + g.S.Source.left c.args.source.now) c.step_by.ensures.no_overflow so.room;
     }
 
 pub units-preserved : goal.units-preserved
@@ -60,8 +61,16 @@ units-preserved g c =
       stopped = λ is. absurd (gives.2 is);
       still = λ ne. absurd (ne (sym (ap (λ (x : Decoding). x.stream_end) (so.still ne).1) ∙ gives.1));
       whole = λ at_end. c.step_by.ensures.whole (so.whole at_end);
-      most = omega (arith, so.most, c.step_by.ensures.greatest);
-      room = omega (arith, so.room, c.step_by.ensures.no_overflow);
+      most = le_on a.state.most b.state.most d.state.most so.most c.step_by.ensures.greatest;
+      room = le_on (d.units.unit_place.at + length d.units.ahead + g.S.Source.left c.step_by.new.source) (b.units.unit_place.at + length b.units.ahead + g.S.Source.left c.units.source) (a.units.unit_place.at + length a.units.ahead + g.S.Source.left c.args.source.now) c.step_by.ensures.no_overflow so.room;
       ahead = λ none. c.step_by.ensures.none_ahead (so.ahead none);
-      count = omega (arith, so.count, c.step_by.ensures.count);
+      count = le_on (g.S.Source.faults c.args.source.now) (g.S.Source.faults c.units.source) (g.S.Source.faults c.step_by.new.source) so.count c.step_by.ensures.count;
     }
+
+pub units-smaller : goal.units-smaller
+units-smaller g c =
+    let b = c.units.self in
+    let d = c.step_by.new.self in
+    let gives = c.in_default.ensures.gives in
+    turns_fall b.stream_end d.stream_end b.units.unit_place.at d.units.unit_place.at gives.1 gives.4
+    (place_below c.units.self.units.unit_place.at (length c.units.self.units.ahead) (g.S.Source.left c.units.source) (2 ^ 63) (below_on (c.units.self.units.unit_place.at + length c.units.self.units.ahead + g.S.Source.left c.units.source) (c.args.self.now.units.unit_place.at + length c.args.self.now.units.ahead + g.S.Source.left c.args.source.now) (2 ^ 63) c.units.invariant.room c.requires.no_overflow))

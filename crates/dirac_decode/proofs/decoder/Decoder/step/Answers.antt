@@ -1,7 +1,8 @@
-use Rattle.std.proofs.Common.{◌∙◌, ◌+◌, ap, arith, length, subst, sym}
+use Rattle.std.proofs.Common.{◌∙◌, ◌+◌, ap, length, subst, sym}
 use Rattle.std.specs.Prelude.{IfSome}
 use Rattle.dirac_decode.specs.Decoding.{AnswersWhatWasMet, BreaksOff, Decoding, StopsIn}
 use Rattle.dirac_decode.specs.Stepping.{IsThere, StepGives, StepGivesBefore, TakesOne}
+use Rattle.dirac_decode.proofs.Counts.{le_from, room_from}
 use Rattle.dirac_decode.proofs.decoder.Decoder.step.Goals as goal
 
 pub returns : goal.returns
@@ -25,6 +26,6 @@ returns g c =
       read = after.read;
       count = after.count;
       fits = after.fits;
-      greatest = omega (arith, ap (λ (x : Decoding). x.state.most) same, after.greatest);
-      no_overflow = omega (arith, ap (λ (x : Decoding). x.units.unit_place.at + length x.units.ahead) same, after.no_overflow);
+      greatest = le_from c.args.self.now.state.most c.keep_halves.new.self.state.most new.state.most (ap (λ (x : Decoding). x.state.most) same) after.greatest;
+      no_overflow = room_from (c.args.self.now.units.unit_place.at + length c.args.self.now.units.ahead) (c.keep_halves.new.self.units.unit_place.at + length c.keep_halves.new.self.units.ahead) (new.units.unit_place.at + length new.units.ahead + g.S.Source.left c.step_by.new.source) (g.S.Source.left c.args.source.now) (ap (λ (x : Decoding). x.units.unit_place.at + length x.units.ahead) same) after.no_overflow;
     }

@@ -1,11 +1,12 @@
-use Rattle.std.proofs.Common.{◌≡◌, ◌∙◌, ℕ, List, Option, ap, arith, refl, subst, sym, None, Some}
+use Rattle.std.proofs.Common.{◌≡◌, ◌∙◌, ◌+◌, ◌^◌, ℕ, length, List, Option, ap, refl, subst, sym, None, Some}
 use Rattle.std.specs.Io.KnownBytes.{append_known}
 use Rattle.dirac_units.specs.declared.unit.StreamEnd.TheVariants as stream_end
 use Rattle.dirac_decode.specs.declared.answers.Next.TheVariants as next
 use Rattle.dirac_decode.specs.Decoding.{AnswersWhatWasMet, BreaksOff, Decoding, Gives, StopsIn}
 use Rattle.dirac_decode.specs.Advancing.{answer_by}
 use Rattle.dirac_decode.specs.Stepping.{IsThere, StepGives, StepGivesBefore, TakesOne}
-use Rattle.dirac_decode.proofs.Turning.{answers_met, answers_shown, due_given, due_stays, gives_met, leads_due, met_no_memory, met_no_read, none_due, one_due, one_met, one_stopped, one_unit, repeats_any}
+use Rattle.dirac_decode.proofs.Counts.{le_from, le_itself, le_same, room_below, room_from, room_same}
+use Rattle.dirac_decode.proofs.Turning.{answers_met, answers_shown, due_given, due_stays, gives_met, leads_due, met_no_memory, met_no_read, none_due, one_due, one_met, one_stopped, one_unit, repeats_any, shown_no_memory, shown_no_read, some_is, stopped_no_memory, stopped_no_read}
 use Rattle.dirac_decode.proofs.decoder.Decoder.step_by.Goals as goal
 
 pub returns-in-Stopped : goal.returns-in-Stopped
@@ -19,14 +20,14 @@ returns-in-Stopped g c =
       repeated = subst (λ n. AnswersWhatWasMet a.stream_end a.due n) (ap answer_by stopped) (answers_met a.stream_end a.due);
       repeats_without_reading = λ ne. refl;
       whole = λ at_end is. at_end is;
-      broken_off = λ is. cc;
-      stops = λ is. cc;
+      broken_off = λ is. absurd (stopped_no_read is);
+      stops = λ is. absurd (stopped_no_memory is);
       none_ahead = λ none. none;
-      read = λ is. cc;
-      count = omega arith;
+      read = λ is. absurd (stopped_no_read is);
+      count = le_itself (g.S.Source.faults c.args.source.now);
       fits = c.met-met.ensures.fits;
-      greatest = omega arith;
-      no_overflow = omega arith;
+      greatest = le_itself a.state.most;
+      no_overflow = le_itself (a.units.unit_place.at + length a.units.ahead + g.S.Source.left c.args.source.now);
     }
 
 pub returns-in-Some : goal.returns-in-Some
@@ -45,20 +46,20 @@ returns-in-Some g c =
       repeated = answers_shown a.stream_end a.due p d.due moving due.0;
       repeats_without_reading = λ ne. refl;
       whole = λ at_end is. at_end (sym stays.stream_end ∙ is);
-      broken_off = λ is. cc;
-      stops = λ is. cc;
+      broken_off = λ is. absurd (shown_no_read p is);
+      stops = λ is. absurd (shown_no_memory p is);
       none_ahead = λ none. stays.ahead ∙ none;
-      read = λ is. cc;
-      count = omega arith;
+      read = λ is. absurd (shown_no_read p is);
+      count = le_itself (g.S.Source.faults c.args.source.now);
       fits = c.next_due.ensures.fits;
-      greatest = omega (arith, stays.most);
-      no_overflow = omega (arith, stays.place);
+      greatest = le_same a.state.most d.state.most stays.most;
+      no_overflow = room_same (a.units.unit_place.at + length a.units.ahead) (d.units.unit_place.at + length d.units.ahead) (g.S.Source.left c.args.source.now) stays.place;
     }
 
 pub take_unit-requires-clause-no_overflow : goal.take_unit-requires-clause-no_overflow
 take_unit-requires-clause-no_overflow g c =
     let stays = due_stays None c.args.self.now c.next_due.new.self c.in_default-next_due.ensures.gives in
-    omega (arith, c.requires.no_overflow, stays.place)
+    room_below (c.args.self.now.units.unit_place.at + length c.args.self.now.units.ahead) (c.next_due.new.self.units.unit_place.at + length c.next_due.new.self.units.ahead) (g.S.Source.left c.args.source.now) (2 ^ 63) stays.place c.requires.no_overflow
 
 pub take_unit-requires-clause-going : goal.take_unit-requires-clause-going
 take_unit-requires-clause-going g c =
@@ -88,15 +89,15 @@ returns-in-Going g c =
       before_more = subst (λ (x : Decoding). IsThere x.units held → StepGivesBefore answer x d held held') due.1 taken.before_more;
       repeated = repeats_any a.stream_end a.due answer going;
       repeats_without_reading = λ ne. absurd (ne going);
-      whole = λ at_end. taken.whole;
+      whole = λ at_end. taken.at_the_end;
       broken_off = λ is. subst (λ (x : Decoding). BreaksOff x held held') due.1 (taken.broken_off is);
       stops = λ is. subst (λ (x : Decoding). StopsIn x held held') due.1 (taken.stops is);
       none_ahead = λ none. taken.none_ahead;
       read = taken.read;
       count = taken.count;
       fits = taken.fits;
-      greatest = omega (arith, stays.most, taken.greatest);
-      no_overflow = omega (arith, stays.place, taken.no_overflow);
+      greatest = le_from a.state.most b.state.most d.state.most stays.most taken.greatest;
+      no_overflow = room_from (a.units.unit_place.at + length a.units.ahead) (b.units.unit_place.at + length b.units.ahead) (d.units.unit_place.at + length d.units.ahead + g.S.Source.left c.take_unit.new.source) (g.S.Source.left c.args.source.now) stays.place taken.no_overflow;
     }
 
 pub returns : goal.returns
@@ -118,12 +119,12 @@ returns g c =
       repeated = subst (λ n. AnswersWhatWasMet a.stream_end a.due n) (sym is) (answers_met a.stream_end a.due);
       repeats_without_reading = λ ne. refl;
       whole = λ at_end e. at_end (sym stays.stream_end ∙ e);
-      broken_off = λ e. let read : answer ≡ next.ReadFault = cc in absurd (met_no_read a.stream_end (sym is ∙ read));
-      stops = λ e. let wants : answer ≡ next.NoMemory = cc in absurd (met_no_memory a.stream_end (sym is ∙ wants));
+      broken_off = λ e. absurd (met_no_read a.stream_end (sym is ∙ some_is answer next.ReadFault e));
+      stops = λ e. absurd (met_no_memory a.stream_end (sym is ∙ some_is answer next.NoMemory e));
       none_ahead = λ none. stays.ahead ∙ none;
-      read = λ e. let read : answer ≡ next.ReadFault = cc in absurd (met_no_read a.stream_end (sym is ∙ read));
-      count = omega arith;
+      read = λ e. absurd (met_no_read a.stream_end (sym is ∙ some_is answer next.ReadFault e));
+      count = le_itself (g.S.Source.faults c.args.source.now);
       fits = c.next_due.ensures.fits;
-      greatest = omega (arith, stays.most);
-      no_overflow = omega (arith, stays.place);
+      greatest = le_same a.state.most d.state.most stays.most;
+      no_overflow = room_same (a.units.unit_place.at + length a.units.ahead) (d.units.unit_place.at + length d.units.ahead) (g.S.Source.left c.args.source.now) stays.place;
     }
