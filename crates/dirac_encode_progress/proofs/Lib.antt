@@ -5,3 +5,4 @@ pub mod Finding
 pub mod Reading
 pub mod OfRead
 pub mod Closing
+pub mod Examples

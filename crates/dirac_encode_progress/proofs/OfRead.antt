@@ -1,14 +1,14 @@
 -- What was written is what the raw bytes read ask for, whatever follows them.
-use Rattle.std.proofs.Common.{◌≡◌, ◌∙◌, ℕ, ◌+◌, ◌*◌, ◌<◌, ◌≤◌, List, [], ◌++◌, length, take, drop, Option, None, Some, refl, sym, ap, subst, arith, append_assoc, append-nil, false}
+use Rattle.std.proofs.Common.{◌≡◌, ◌∙◌, ℕ, ◌+◌, ◌-◌, ◌*◌, ◌==◌, ◌<◌, ◌≤◌, List, [], ◌++◌, length, take, drop, Option, None, Some, refl, sym, ap, subst, arith, append_assoc, append-nil, true, false}
 use Rattle.std.proofs.lemmas.List.{take_at}
-use Rattle.std.specs.Prelude.{IfSome}
+use Rattle.std.specs.Prelude.{IfSome, ◌||◌}
 use Rattle.std.specs.Io.KnownBytes.{Appends, Consumes}
 use Rattle.std.proofs.KnownBytes.{Appends-nil}
 use Rattle.dirac_io.specs.Writing.{AppendsFront}
 use Rattle.dirac_types.specs.declared.settings.Settings.{Settings}
 use Rattle.dirac_content.specs.Raw.{raws}
-use Rattle.dirac_sources.specs.Sources.{picture_from, raw_length}
-use Rattle.dirac_plan.specs.Planning.{Planning, waiting_places, with_picture}
+use Rattle.dirac_sources.specs.Sources.{picture_from, raw_length, sources}
+use Rattle.dirac_plan.specs.Planning.{Planning, are_too_few, gives_none, waiting_places, with_picture}
 use Rattle.dirac_encode_laws.specs.declared.answers.Encoded.{Encoded}
 use Rattle.dirac_encode_laws.specs.declared.answers.Encoded.TheVariants as encoded
 use Rattle.dirac_encode_laws.specs.Coding.{IndexRule, Made, coded_under}
@@ -17,7 +17,7 @@ use Rattle.dirac_encode_laws.specs.Steps.{Progress}
 use Rattle.dirac_encode_laws.proofs.Recovered.{AreBytes}
 use Rattle.dirac_encode_laws.specs.Standing.{coding_in, jobs_in, pushed_now}
 use Rattle.dirac_encode_laws.specs.Stream.{units_of}
-use Rattle.dirac_encode_progress.specs.Alone.{WritesDue, WritesFrontOfRead}
+use Rattle.dirac_encode_progress.specs.Alone.{WritesDue, WritesFrontOfRead, none_can_be_coded}
 use Rattle.dirac_encode_progress.specs.Going.{LeadsOn}
 use Rattle.dirac_encode_progress.proofs.Reading.{Runs, closes_part, next_leads, so_far_first, waits_leads}
 
@@ -131,10 +131,18 @@ first_delivered f t bytes p c held out0 out side0 side r =
 held_is : (part other : List ℕ) → Some part ≡ Some other → part ≡ other
 held_is part other is = cc
 
+-- none of those that wait can be coded, told by how many were read and are coded
+none_more : (p : Planning) (t : Settings) (read coded : ℕ) → p.settings ≡ t → p.accepted ≡ read → p.given ≡ coded → length p.waiting ≡ read - coded → gives_none p false ≡ true → none_can_be_coded t read coded ≡ true
+none_more p t read coded settings accepted given waiting none =
+    subst (λ (w : ℕ). (w == 0 || are_too_few t read coded false w) ≡ true) waiting
+    (subst (λ (k : ℕ). (length p.waiting == 0 || are_too_few t read k false (length p.waiting)) ≡ true) given
+    (subst (λ (n : ℕ). (length p.waiting == 0 || are_too_few t n p.given false (length p.waiting)) ≡ true) accepted
+    (subst (λ (s : Settings). (length p.waiting == 0 || are_too_few s p.accepted p.given false (length p.waiting)) ≡ true) settings none)))
+
 pub due_by : (f : IndexRule) (t : Settings) (first : Option (List ℕ)) (p : Planning) (c : Progress) (held held' out0 out side0 side : Option (List ℕ)) (part : List ℕ) → IfSome first (λ bytes. Alone f t bytes p c held out0 out side0 side) → Consumes held held' part → length part < raw_length t → p.accepted ≤ t.pictures
-    → p.accepted ≡ p.given + length p.waiting → length p.waiting ≤ waiting_places p.settings → p.settings ≡ t → IfSome first (λ bytes. WritesDue f t bytes held' out0 out side0 side)
-due_by f t None p c held held' out0 out side0 side part a got short few counts fit same = tt
-due_by f t (Some bytes) p c held held' out0 out side0 side part a got short few counts fit same =
+    → p.accepted ≡ p.given + length p.waiting → length p.waiting ≤ waiting_places p.settings → p.settings ≡ t → gives_none p false ≡ true → IfSome first (λ bytes. WritesDue f t bytes held' out0 out side0 side)
+due_by f t None p c held held' out0 out side0 side part a got short few counts fit same none = tt
+due_by f t (Some bytes) p c held held' out0 out side0 side part a got short few counts fit same none =
     let left = given_of held held' a.rest part a.holds got in
     let read : List ℕ = a.read ++ part in
     let r : Runs f t read p c (Some part) out0 out side0 side = a.runs part in
@@ -149,6 +157,7 @@ due_by f t (Some bytes) p c held held' out0 out side0 side part a got short few 
       holds = left.1;
       count = c.count;
       few_wait = omega (arith, closes.all, counts, fit, ap waiting_places same, r.goes.given);
+      none_due = none_more p t (length (sources t read)) c.count same closes.all r.goes.given (omega (arith, closes.all, counts, r.goes.given)) none;
       written = λ more. first_written f t (read ++ more) p c (Some (part ++ more)) out0 out side0 side (all_runs more);
       delivered = λ more. first_delivered f t (read ++ more) p c (Some (part ++ more)) out0 out side0 side (all_runs more);
     }

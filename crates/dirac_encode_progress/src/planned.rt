@@ -4,7 +4,7 @@ ghost use Rattle.std.specs.Prelude.{◌≡◌, ◌+◌, ◌≤◌, length, Ok, E
 ghost use Rattle.dirac_io.specs.Faults.{Rose};
 ghost use Rattle.dirac_types.specs.Settings.{IsAccepted};
 ghost use Rattle.dirac_sequence.specs.Written.{sequence_payload};
-ghost use Rattle.dirac_plan.specs.Planning.{is_closed, waiting_places};
+ghost use Rattle.dirac_plan.specs.Planning.{gives_none, is_closed, waiting_places};
 ghost use Rattle.dirac_encode_laws.specs.Fit.{rule_of};
 ghost use Rattle.dirac_encode_laws.specs.Steps.{StopsCoding};
 ghost use Rattle.dirac_encode_progress.specs.Going.{LeadsOn, PlanIsListed, Stops, so_far};
@@ -44,7 +44,9 @@ pub(crate) fn put_planned<
     ensures led { OnOk result (LeadsOn (rule_of coder.now.budget) coder.now.settings.now ended planner.old planner.new
         (so_far coding.old) (so_far coding.new)
         (K.taken out.old) (K.taken out.new) (N.taken side.old) (N.taken side.new)) }
-    // Once the pictures have ended, all that were accepted are coded; else the next one will be accepted.
+    // No other picture can be coded by now. Once the pictures have ended, all that were accepted are coded; else the
+    // next one will be accepted.
+    ensures none_due { OnOk result (gives_none planner.new ended ≡ true) }
     ensures all_given { OnOk result (ended ≡ true → planner.new.given ≡ planner.new.accepted) }
     ensures opened { OnOk result (ended ≡ false → is_closed planner.new ≡ false) }
     ensures counts { OnOk result (planner.new.accepted ≡ planner.new.given + length planner.new.waiting) }

@@ -315,4 +315,4 @@ returns-in-Failed-clause-due g c = λ failed.
     due_by f t first c.put_planned.new.planner (so_far c.put_planned.new.coding) (g.S.Source.held c.pictures.source) (g.S.Source.held c.fill.new.source) (g.K.Sink.taken c.args.out.now) (g.K.Sink.taken c.put_planned.new.out) (g.N.Sink.taken c.args.side.now) (g.N.Sink.taken c.put_planned.new.side)
     (take front.0 c.fill.new.buf) alone front.2
     (omega (arith, few, length-take-le front.0 c.fill.new.buf (omega (arith, few)), c.fill.ensures.size, c.pictures.invariant.size))
-    (omega (arith, c.in_default.ensures.accepted, c.pictures.invariant.in_range)) c.in_default.ensures.counts c.in_default.ensures.waiting_fit c.in_default.ensures.settings
+    (omega (arith, c.in_default.ensures.accepted, c.pictures.invariant.in_range)) c.in_default.ensures.counts c.in_default.ensures.waiting_fit c.in_default.ensures.settings c.in_default.ensures.none_due

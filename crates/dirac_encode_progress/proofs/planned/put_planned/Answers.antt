@@ -1,4 +1,5 @@
-use Rattle.std.proofs.Common.{◌∙◌, sym, arith}
+use Rattle.std.proofs.Common.{◌≡◌, ◌∙◌, true, refl, sym, subst, arith}
+use Rattle.dirac_plan.specs.Planning.{Planning, gives_none}
 use Rattle.dirac_encode_laws.specs.Fit.{rule_of}
 use Rattle.dirac_encode_progress.specs.Going.{so_far}
 use Rattle.dirac_encode_progress.proofs.Finding.{lists_behind, lists_found, lists_more, lists_told}
@@ -33,6 +34,10 @@ pub returns-clause-led : goal.returns-clause-led
 returns-clause-led g c bytes out0 side0 start =
     goes_told (rule_of c.args.coder.now.budget) c.args.coder.now.settings.now bytes c.args.ended c.args.ended c.planned.planner c.take.new.self (so_far c.planned.coding) out0 (g.K.Sink.taken c.planned.out) side0 (g.N.Sink.taken c.planned.side)
     c.in_default.ensures.in_vain (c.planned.invariant.led bytes out0 side0 start)
+
+pub returns-clause-none_due : goal.returns-clause-none_due
+returns-clause-none_due g c =
+    subst (λ (p : Planning). gives_none p c.args.ended ≡ true) (sym c.in_default.ensures.in_vain) (c.in_default.ensures.none.0 refl)
 
 pub returns-clause-lists : goal.returns-clause-lists
 returns-clause-lists g c = lists_told c.args.coder.now.settings.now c.args.ended c.args.ended c.planned.planner c.take.new.self (so_far c.planned.coding) c.in_default.ensures.in_vain c.planned.invariant.lists
