@@ -1,6 +1,7 @@
 //! The parts of a picture put together.
 
-ghost use Rattle.std.specs.Prelude.{◌≡◌, ◌-◌, ◌+◌, ◌*◌, ◌<◌, length, slice_index_or, take, IfOk, IfSome, IsSome, OnOk};
+ghost use Rattle.std.specs.Prelude.{◌≡◌, ◌-◌, ◌+◌, ◌*◌, ◌<◌, [], length, slice_index_or, take, None};
+ghost use Rattle.std.specs.Prelude.{IfOk, IfSome, IsSome, OnOk};
 ghost use Rattle.dirac_common.specs.declared.formats.Component.{Component as TheComponent};
 ghost use Rattle.dirac_picture.specs.Texts.{AreTexts};
 ghost use Rattle.dirac_content.specs.Content.{rebuilt};
@@ -47,6 +48,7 @@ fn take_text(
         (parts.new.items ≡ take (length parts.old.items - bands_per_plane from.now) parts.old.items) }
     ensures text { (o : TheComponent) → EndsWithTexts from.now o parts.old.items
         → IfOk result (λ v. HasAllText from.now o v.items) }
+    ensures none { from.now.coded.now.residual ≡ None → IfOk result (λ v. v.items ≡ []) }
 {
     let mut text = Vec::new(alloc);
     'bands: for _n in 0..bands_each(&from.coded.residual) {
@@ -71,6 +73,7 @@ fn take_plane(
     ensures plane { (o : TheComponent)
         → ArePartsOf from.now o (length parts.old.items - bands_per_plane from.now - 1) parts.old.items
         → IfOk result (IsFinishedPlaneOf from.now o) }
+    ensures none { from.now.coded.now.residual ≡ None → IfOk result (λ p. p.text.items ≡ []) }
 {
     let text = take_text(alloc, from, parts)?;
     let part = take_last(parts);
@@ -91,6 +94,8 @@ pub(crate) fn gathered(
     requires parts { AnswerRows (IsPartAt from.now) (3 * (bands_per_plane from.now + 1)) parts.items }
     ensures texts { IfOk result (λ f. IfSome from.now.coded.now.residual
         (λ r. AreTexts from.now.sequence.now r f.texts)) }
+    ensures none { from.now.coded.now.residual ≡ None → IfOk result (λ f. (f.texts.y.items ≡ [])
+        × (f.texts.u.items ≡ []) × (f.texts.v.items ≡ [])) }
     ensures shown { IfOk result (λ f. f.shown ≡ rebuilt from.now.sequence.now from.now.refs.now from.now.coded.now) }
 {
     let v = take_plane(alloc, from, &mut parts)?;

@@ -1,6 +1,6 @@
 //! What a coded picture is finished with: the bytes of its bands, and the picture that decoders show for it.
 
-ghost use Rattle.std.specs.Prelude.{◌≡◌, ◌≤◌, IfOk, IfSome};
+ghost use Rattle.std.specs.Prelude.{◌≡◌, ◌≤◌, [], None, IfOk, IfSome};
 ghost use Rattle.dirac_picture.specs.Texts.{AreTexts};
 ghost use Rattle.dirac_content.specs.Content.{rebuilt};
 ghost use Rattle.dirac_reconstruct.specs.Finishing.{IsFinishable};
@@ -58,6 +58,8 @@ pub fn finish(alloc: Global, from: &Finishing<'_>) -> Result<Finished, NoMemory>
     requires { IsFinishable from.now }
     ensures texts { IfOk result (λ f. IfSome from.now.coded.now.residual
         (λ r. AreTexts from.now.sequence.now r f.texts)) }
+    ensures none { from.now.coded.now.residual ≡ None → IfOk result (λ f. (f.texts.y.items ≡ [])
+        × (f.texts.u.items ≡ []) × (f.texts.v.items ≡ [])) }
     ensures shown { IfOk result (λ f. f.shown ≡ rebuilt from.now.sequence.now from.now.refs.now from.now.coded.now) }
 {
     let texts = texts_of(alloc, from.sequence, &from.coded.residual)?;
@@ -76,6 +78,8 @@ pub fn finish_side_by_side<R: Threads + Sync>(
     requires finishing { IsFinishable from.now }
     ensures texts { IfOk result (λ f. IfSome from.now.coded.now.residual
         (λ r. AreTexts from.now.sequence.now r f.texts)) }
+    ensures none { from.now.coded.now.residual ≡ None → IfOk result (λ f. (f.texts.y.items ≡ [])
+        × (f.texts.u.items ≡ []) × (f.texts.v.items ≡ [])) }
     ensures shown { IfOk result (λ f. f.shown ≡ rebuilt from.now.sequence.now from.now.refs.now from.now.coded.now) }
 {
     let parts = part_rows(rt, alloc, from, workers.min(64))?;
