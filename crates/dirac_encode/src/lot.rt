@@ -82,7 +82,8 @@ fn code_lot<R: Threads + Sync>(
     )
 }
 
-/// What is kept; where nothing is, a picture and those that wait behind it are coded.
+/// What is kept; where nothing is, a picture and those that wait behind it are coded. None where none waits: one picture
+/// is coded sooner by all workers; and where there is no memory for that many.
 fn lot_at_hand<R: Threads + Sync>(
     rt: &R,
     alloc: Global,
@@ -90,21 +91,27 @@ fn lot_at_hand<R: Threads + Sync>(
     kept: &Kept,
     source: &Picture,
     behind: &Planner,
-) -> Result<Vec<CodedAhead>, NoMemory>
+) -> Option<Vec<CodedAhead>>
     requires accepted { IsAccepted settings.now }
     requires source { IsSource settings.now source.now }
     requires behind { AreReadyBehind settings.now behind.now }
 {
     if let Some(lot) = kept.replace(None) {
         if !lot.is_empty() {
-            return Ok(lot);
+            return Some(lot);
         }
     }
-    code_lot(rt, alloc, settings, source, behind)
+    if behind.waiting() == 0 {
+        return None;
+    }
+    match code_lot(rt, alloc, settings, source, behind) {
+        Ok(lot) => Some(lot),
+        Err(_) => None,
+    }
 }
 
 /// What a picture becomes, coded together with those that wait behind it: it and they are coded now, or it was coded
-/// with those before it. None where there is no memory for that many, or it isn't the picture that was expected.
+/// with those before it. None where it is to be coded alone, or isn't the picture that was expected.
 pub(crate) fn coded_in_lot<R: Threads + Sync>(
     rt: &R,
     alloc: Global,
@@ -119,9 +126,7 @@ pub(crate) fn coded_in_lot<R: Threads + Sync>(
     requires behind { AreReadyBehind settings.now behind.now }
     ensures { IfSome result (IsCodedAlone settings.now planned.now source.now) }
 {
-    let Ok(mut lot) = lot_at_hand(rt, alloc, settings, kept, source, behind) else {
-        return None;
-    };
+    let mut lot = lot_at_hand(rt, alloc, settings, kept, source, behind)?;
     let ahead = lot.pop()?;
     kept.set(Some(lot));
     ahead.result_for(settings, planned, source)

@@ -1,6 +1,6 @@
 //! Whether what was coded is what is asked for.
 
-ghost use Rattle.std.specs.Prelude.{◌≡◌, true};
+ghost use Rattle.std.specs.Prelude.{◌≡◌, ◌<◌, ℕ, pos, true, length, slice_index_or};
 
 use dirac_common::{Picture, Plane};
 use dirac_plan::Planned;
@@ -20,11 +20,27 @@ pub(crate) fn are_planned_alike(ours: &Planned, theirs: &Planned) -> bool
     *ours == *theirs
 }
 
+/// As many samples are the same. None ends the loop, so that several are compared at once.
+fn agree(ours: &[i16], theirs: &[i16]) -> bool
+    requires { length theirs.now ≡ length ours.now }
+    ensures { result ≡ true → (k : ℕ) → k < length ours.now
+        → slice_index_or ours.now k (pos 0) ≡ slice_index_or theirs.now k (pos 0) }
+{
+    let mut same = true;
+    for i in 0..ours.len() {
+        same &= ours[i] == theirs[i];
+    }
+    same
+}
+
 /// Both have the same samples.
 fn are_same_samples(ours: &[i16], theirs: &[i16]) -> bool
     ensures { result ≡ true → ours.now ≡ theirs.now }
 {
-    ours == theirs
+    if ours.len() != theirs.len() {
+        return false;
+    }
+    agree(ours, theirs)
 }
 
 /// Both planes have the same sizes and samples.

@@ -127,8 +127,8 @@ fn code_source<F: Fn(&Planned, &Picture, &RefBuffer, &Planner) -> Result<Coded, 
     Ok(coded)
 }
 
-/// Codes a planned picture and writes its unit, an intra picture's behind a sequence header. The planner is the one that
-/// gave it, with those that wait behind it.
+/// Codes a planned picture and writes its unit, an intra picture's behind a sequence header. The planner is the one
+/// that gave it, with those that wait behind it.
 pub(crate) fn put_source<
     F: Fn(&Planned, &Picture, &RefBuffer, &Planner) -> Result<Coded, NoMemory>,
     K: Sink,

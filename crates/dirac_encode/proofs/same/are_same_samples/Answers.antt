@@ -1,6 +1,6 @@
-use Rattle.std.proofs.lemmas.Bool.Decides.{Decides-int_eq}
-use Rattle.std.proofs.lemmas.Slice.Eq.{slice_eq-Decides}
+use Rattle.std.proofs.Common.{pos, arith}
+use Rattle.std.proofs.lemmas.List.{ext_get_or}
 use Rattle.dirac_encode.proofs.same.are_same_samples.Goals as goal
 
 pub returns : goal.returns
-returns c = (slice_eq-Decides Decides-int_eq c.args.ours.now c.args.theirs.now c.eq.result c.eq.ensures).0
+returns c = λ e. ext_get_or (pos 0) c.args.ours.now c.args.theirs.now (omega arith) (c.agree.ensures e)
