@@ -32,7 +32,7 @@ pub struct PushDecoder {
 
 impl Model for PushDecoder {
     ghost use Rattle.std.specs.Prelude.{◌≡◌, ◌+◌, ◌<◌, ◌^◌, []};
-    ghost use Rattle.dirac_push.specs.Queued.{count_of};
+    ghost use Rattle.dirac_push.specs.Queued.{count_waiting};
     ghost use Rattle.dirac_push.specs.Pushing.{IsFormat, Pushed};
 
     ghost Value = { Pushed };
@@ -47,7 +47,7 @@ impl Model for PushDecoder {
     } };
 
     ghost invariant = { λ d. (d.decoder.units.ahead ≡ [])
-        × (d.decoder.units.unit_place.at + count_of d.queue + d.room < 2 ^ 63)
+        × (d.decoder.units.unit_place.at + count_waiting d.queue + d.room < 2 ^ 63)
         × IsFormat d.decoder.state.opened d.format };
 }
 

@@ -4,7 +4,7 @@ ghost use Rattle.dirac_io.specs.Faults.{Rose};
 ghost use Rattle.dirac_io.specs.Reading.{IfBytes, GivesFront, MeetsEnd};
 ghost use Rattle.std.specs.Io.KnownBytes.{Keeps};
 ghost use Rattle.dirac_decode.specs.Stepping.{IsWholeUnit};
-ghost use Rattle.dirac_push.specs.Queued.{count_fits, count_of, none_fits};
+ghost use Rattle.dirac_push.specs.Queued.{count_fits, count_waiting, none_fits};
 
 use dirac_common::NoMemory;
 use dirac_io::{Got, Source};
@@ -41,7 +41,7 @@ impl Queue {
 
     /// Adds bytes behind those that are there. Where there is no memory for them, none is added.
     pub(crate) fn add(&mut self, bytes: &[u8]) -> Result<(), NoMemory>
-        requires { count_of self.old + length bytes.now < 2 ^ 63 }
+        requires { count_waiting self.old + length bytes.now < 2 ^ 63 }
         ensures added { IfOk result (λ _. self.new ≡ self.old ++ bytes.now) }
         ensures no_memory { IfErr result (λ _. self.new ≡ self.old) }
     {
@@ -84,7 +84,7 @@ impl Source for Queue {
 
     ghost faults = { λ _. 0 };
 
-    ghost left = { λ q. count_of q };
+    ghost left = { λ q. count_waiting q };
 
     ghost left_fits = { λ q. count_fits q };
 
