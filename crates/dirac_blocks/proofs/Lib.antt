@@ -8,6 +8,7 @@ mod Forwards
 mod Fronts
 mod Going
 mod InContexts
+mod InLists
 mod InOrder
 mod InTurn
 mod Narrowing

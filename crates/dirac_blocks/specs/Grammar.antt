@@ -143,6 +143,11 @@ superblock_step part sy sx t =
 abbrev pub units_step : ListKind → TableStep
 units_step part t = repeated (λ sy. repeated (superblock_step part sy) t.across) t.down t
 
+-- what a list tells of superblock sx of row sy: its split, or what it tells of each unit
+abbrev pub list_step : Option ListKind → ℕ → ℕ → TableStep
+list_step None = split_step
+list_step (Some part) = superblock_step part
+
 -- all that one list tells: the splits, or what it tells of each unit
 abbrev pub step_of : Option ListKind → TableStep
 step_of None = splits_step

@@ -10,7 +10,10 @@ use Rattle.dirac_block_table.specs.declared.reference.Reference.{Reference}
 use Rattle.dirac_block_table.specs.declared.reference.Reference.TheVariants as reference
 pub use Rattle.dirac_block_table.specs.Neighbours.{use_at, vector_at, dc_at}
 use Rattle.dirac_block_table.specs.Tables.{BlockTable}
-use Rattle.dirac_blocks.specs.Decisions.{mode_part, vector_part, dc_part, least_numbers, split_rows, unit_decisions}
+use Rattle.dirac_arith.specs.Spelling.{spelling}
+use Rattle.dirac_arith.specs.declared.contexts.TheConstants.{SPLIT_DIGITS, SPLIT_FOLLOW}
+use Rattle.dirac_blocks.specs.Decisions.{mode_part, vector_part, dc_part, least_numbers, split_row, split_rows}
+use Rattle.dirac_blocks.specs.Decisions.{superblock_part, superblock_row, unit_decisions}
 
 -- what a part tells of a unit
 abbrev pub part_at : ListKind → BlockTable → ℕ → ℕ → List Decision
@@ -33,6 +36,16 @@ is_there (Some (part.Dc c)) refs = true
 abbrev pub list_decisions : Option ListKind → BlockTable → List Decision
 list_decisions None t = split_rows t.across (least_numbers t) t.down
 list_decisions (Some p) t = unit_decisions t (part_at p t)
+
+-- what a list codes of superblock sx of row sy
+abbrev pub list_part : Option ListKind → BlockTable → ℕ → ℕ → List Decision
+list_part None t sx sy = spelling SPLIT_FOLLOW SPLIT_DIGITS (least_numbers t sy sx)
+list_part (Some p) t sx sy = superblock_part (part_at p t) t sx sy
+
+-- what it codes of the first n superblocks of row sy
+abbrev pub list_row : Option ListKind → BlockTable → ℕ → ℕ → List Decision
+list_row None t sy n = split_row (least_numbers t) sy n
+list_row (Some p) t sy n = superblock_row (part_at p t) t sy n
 
 -- that list, where it is there
 abbrev pub list_there : Option ListKind → BlockTable → List (List Decision)

@@ -1,27 +1,83 @@
-ghost use Rattle.std.specs.Prelude.{◌≡◌, ◌≤◌, length, IfErr, None};
+ghost use Rattle.std.specs.Prelude.{◌≡◌, ◌+◌, ◌*◌, ◌^◌, ◌<◌, ◌≤◌, length, IfErr, None};
+ghost use Rattle.dirac_arith.specs.Coded.{read_coded, repeated};
 ghost use Rattle.dirac_bits.specs.Syntax.{read};
-ghost use Rattle.dirac_blocks.specs.Grammar.{list_over, lists_of, step_of};
-ghost use Rattle.dirac_blocks.specs.Reached.{AllGrey, BlockIsRead, ListIsRead, SameSize};
+ghost use Rattle.dirac_blocks.specs.Grammar.{list_over, list_step, lists_of, step_of};
+ghost use Rattle.dirac_blocks.specs.Reached.{AllGrey, BlockIsRead, ListIsRead, SameSize, StepMoves};
 
 use crate::parts::{LISTS, ListKind, is_there};
-use crate::split_reader::read_splits;
-use crate::unit_reading::read_units;
+use crate::split_reader::read_split;
+use crate::unit_reading::read_superblock;
 use dirac_arith::Decoder;
 use dirac_bits::BitReader;
 use dirac_block_table::BlockData;
 use dirac_common::{Cause, Refusal};
 
+/// Reads what a list tells of superblock `sx` of row `sy`: how it is split, or what a part tells of its units.
+fn read_cell(
+    decoder: &mut Decoder<'_>,
+    table: &mut BlockData,
+    list: Option<ListKind>,
+    sx: u32,
+    sy: u32,
+) -> Result<(), Cause>
+    requires column { sx < table.old.across }
+    requires row { sy < table.old.down }
+    requires grey { list ≡ None → AllGrey table.old.blocks }
+    requires no_overflow { decoder.old.at.doublings < 2 ^ 57 }
+    ensures value { StepMoves result table.new decoder.new (read_coded (list_step list sy sx table.old) decoder.old) }
+    ensures size { SameSize table.old table.new }
+    ensures blocks { list ≡ None → table.new.blocks ≡ table.old.blocks }
+    ensures few_doublings { decoder.new.at.doublings ≤ decoder.old.at.doublings + 11232 }
+{
+    match list {
+        None => read_split(decoder, table, sx, sy),
+        Some(part) => read_superblock(decoder, table, part, sx, sy),
+    }
+}
+
+/// Reads what a list tells of the first `count` superblocks of row `sy`.
+fn read_row(
+    decoder: &mut Decoder<'_>,
+    table: &mut BlockData,
+    list: Option<ListKind>,
+    sy: u32,
+    count: u32,
+) -> Result<(), Cause>
+    requires column { count ≤ table.old.across }
+    requires row { sy < table.old.down }
+    requires grey { list ≡ None → AllGrey table.old.blocks }
+    requires no_overflow { decoder.old.at.doublings < 2 ^ 56 }
+    ensures value { StepMoves result table.new decoder.new
+        (read_coded (repeated (list_step list sy) count table.old) decoder.old) }
+    ensures size { SameSize table.old table.new }
+    ensures blocks { list ≡ None → table.new.blocks ≡ table.old.blocks }
+    ensures few_doublings { decoder.new.at.doublings ≤ decoder.old.at.doublings + 11232 * count }
+{
+    'superblocks: for n in 0..count {
+        match read_cell(decoder, table, list, n, sy) {
+            Ok(()) => {}
+            Err(cause) => return Err(cause),
+        }
+    }
+    Ok(())
+}
+
 /// Reads what a list tells from its arithmetic block: of each unit, or, where no part is named, the splits.
-fn decode_list(block: &[u8], table: &mut BlockData, part: Option<ListKind>) -> Result<(), Cause>
-    requires { part ≡ None → AllGrey table.old.blocks }
-    ensures value { BlockIsRead result table.new (step_of part table.old) block.now }
+fn decode_list(block: &[u8], table: &mut BlockData, list: Option<ListKind>) -> Result<(), Cause>
+    requires { list ≡ None → AllGrey table.old.blocks }
+    ensures value { BlockIsRead result table.new (step_of list table.old) block.now }
     ensures size { SameSize table.old table.new }
 {
     let mut decoder = Decoder::new(block);
-    match part {
-        None => read_splits(&mut decoder, table),
-        Some(part) => read_units(&mut decoder, table, part),
+    let across = table.across();
+    let down = table.down();
+    'rows: for n in 0..down {
+        match read_row(&mut decoder, table, list, n, across) {
+            Ok(()) => {}
+            Err(cause) => return Err(cause),
+        }
     }
+    Ok(())
 }
 
 /// Reads the block of a list.

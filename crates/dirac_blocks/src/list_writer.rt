@@ -1,42 +1,68 @@
-ghost use Rattle.std.specs.Prelude.{◌≡◌, IfOk};
+ghost use Rattle.std.specs.Prelude.{◌≡◌, ◌<◌, ◌≤◌, IfOk, OnOk};
+ghost use Rattle.dirac_arith.specs.Interval.{narrowed_by};
 ghost use Rattle.dirac_arith.specs.Written.{flush};
-ghost use Rattle.dirac_blocks.specs.Decisions.{least_numbers, split_rows, unit_decisions};
-ghost use Rattle.dirac_blocks.specs.Parts.{part_at};
+ghost use Rattle.dirac_blocks.specs.Parts.{list_decisions, list_part, list_row};
 
 use crate::parts::ListKind;
-use crate::split_writer::write_split_row;
-use crate::unit_loops::write_superblock_row;
+use crate::split_writer::write_split;
+use crate::unit_loops::write_superblock;
 use dirac_arith::Encoder;
 use dirac_block_table::BlockData;
 use dirac_common::NoMemory;
 use std::alloc::Global;
 
-/// The arithmetic block of the split numbers.
-pub fn split_block(alloc: Global, table: &BlockData) -> Result<Vec<u8>, NoMemory>
-    ensures { IfOk result (λ block. block.items ≡ flush (split_rows table.now.across (least_numbers table.now)
-        table.now.down)) }
+/// Writes what a list tells of superblock `sx` of row `sy`: how it is split, or what a part tells of its units.
+fn write_cell(
+    encoder: &mut Encoder,
+    table: &BlockData,
+    list: Option<ListKind>,
+    sx: u32,
+    sy: u32,
+) -> Result<(), NoMemory>
+    requires column { sx < table.now.across }
+    requires row { sy < table.now.down }
+    ensures { OnOk result (encoder.new ≡ narrowed_by encoder.old (list_part list table.now sx sy)) }
 {
-    let mut encoder = Encoder::new(alloc);
-    let across = table.across();
-    let down = table.down();
-    'rows: for n in 0..down {
-        match write_split_row(&mut encoder, table, n, across) {
+    match list {
+        None => write_split(encoder, table, sx, sy),
+        Some(part) => write_superblock(encoder, table, part, sx, sy),
+    }
+}
+
+/// Writes what a list tells of the first `count` superblocks of row `sy`.
+fn write_row(
+    encoder: &mut Encoder,
+    table: &BlockData,
+    list: Option<ListKind>,
+    sy: u32,
+    count: u32,
+) -> Result<(), NoMemory>
+    requires column { count ≤ table.now.across }
+    requires row { sy < table.now.down }
+    ensures { OnOk result (encoder.new ≡ narrowed_by encoder.old (list_row list table.now sy count)) }
+{
+    'superblocks: for n in 0..count {
+        match write_cell(encoder, table, list, n, sy) {
             Ok(()) => {}
             Err(e) => return Err(e),
         }
     }
-    encoder.finish()
+    Ok(())
 }
 
-/// The arithmetic block of what a list tells of each unit.
-pub fn part_block(alloc: Global, table: &BlockData, part: ListKind) -> Result<Vec<u8>, NoMemory>
-    ensures { IfOk result (λ block. block.items ≡ flush (unit_decisions table.now (part_at part table.now))) }
+/// The arithmetic block of a list.
+pub fn list_block(
+    alloc: Global,
+    table: &BlockData,
+    list: Option<ListKind>,
+) -> Result<Vec<u8>, NoMemory>
+    ensures { IfOk result (λ block. block.items ≡ flush (list_decisions list table.now)) }
 {
     let mut encoder = Encoder::new(alloc);
     let across = table.across();
     let down = table.down();
     'rows: for n in 0..down {
-        match write_superblock_row(&mut encoder, table, part, n, across) {
+        match write_row(&mut encoder, table, list, n, across) {
             Ok(()) => {}
             Err(e) => return Err(e),
         }

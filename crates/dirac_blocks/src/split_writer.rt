@@ -1,14 +1,19 @@
-ghost use Rattle.std.specs.Prelude.{◌≡◌, ◌<◌, ◌≤◌, [], ◌∷◌, OnOk};
+ghost use Rattle.std.specs.Prelude.{◌≡◌, ◌<◌, [], ◌∷◌, OnOk};
 ghost use Rattle.dirac_arith.specs.Interval.{narrowed_by};
 ghost use Rattle.dirac_arith.specs.Spelling.{spelling};
-ghost use Rattle.dirac_blocks.specs.Decisions.{least_numbers, split_row};
+ghost use Rattle.dirac_blocks.specs.Decisions.{least_numbers};
 
 use dirac_arith::{Encoder, SPLIT_DIGITS, SPLIT_FOLLOW};
 use dirac_block_table::{BlockData, predict_split_at};
 use dirac_common::NoMemory;
 
 /// Writes the number of superblock `sx` of row `sy`: its split less its prediction, modulo 3.
-fn write_split(encoder: &mut Encoder, table: &BlockData, sx: u32, sy: u32) -> Result<(), NoMemory>
+pub fn write_split(
+    encoder: &mut Encoder,
+    table: &BlockData,
+    sx: u32,
+    sy: u32,
+) -> Result<(), NoMemory>
     requires column { sx < table.now.across }
     requires row { sy < table.now.down }
     ensures { OnOk result (encoder.new ≡ narrowed_by encoder.old
@@ -18,24 +23,4 @@ fn write_split(encoder: &mut Encoder, table: &BlockData, sx: u32, sy: u32) -> Re
     let prediction = predict_split_at(table, sx, sy);
     let number = (split + 3 - prediction) % 3;
     encoder.number(&SPLIT_FOLLOW, SPLIT_DIGITS, number as u64)
-}
-
-/// Writes the numbers of the first `count` superblocks of row `sy`.
-pub fn write_split_row(
-    encoder: &mut Encoder,
-    table: &BlockData,
-    sy: u32,
-    count: u32,
-) -> Result<(), NoMemory>
-    requires column { count ≤ table.now.across }
-    requires row { sy < table.now.down }
-    ensures { OnOk result (encoder.new ≡ narrowed_by encoder.old (split_row (least_numbers table.now) sy count)) }
-{
-    'superblocks: for n in 0..count {
-        match write_split(encoder, table, n, sy) {
-            Ok(()) => {}
-            Err(e) => return Err(e),
-        }
-    }
-    Ok(())
 }

@@ -1,6 +1,6 @@
 ghost use Rattle.std.specs.Prelude.{◌≡◌, ◌+◌, ◌*◌, ◌<◌, ◌≤◌, OnOk};
 ghost use Rattle.dirac_arith.specs.Interval.{narrowed_by};
-ghost use Rattle.dirac_blocks.specs.Decisions.{unit_row, superblock_part, superblock_row};
+ghost use Rattle.dirac_blocks.specs.Decisions.{unit_row, superblock_part};
 ghost use Rattle.dirac_blocks.specs.Parts.{part_at};
 
 use crate::parts::ListKind;
@@ -35,7 +35,7 @@ fn write_unit_row(
 }
 
 /// Writes the units of superblock `sx` of row `sy`.
-fn write_superblock(
+pub fn write_superblock(
     encoder: &mut Encoder,
     table: &BlockData,
     part: ListKind,
@@ -55,28 +55,6 @@ fn write_superblock(
     'rows: for n in 0..across {
         let row = top + n * size;
         match write_unit_row(encoder, table, part, size, left, row, across) {
-            Ok(()) => {}
-            Err(e) => return Err(e),
-        }
-    }
-    Ok(())
-}
-
-/// Writes the first `count` superblocks of row `sy`.
-pub fn write_superblock_row(
-    encoder: &mut Encoder,
-    table: &BlockData,
-    part: ListKind,
-    sy: u32,
-    count: u32,
-) -> Result<(), NoMemory>
-    requires column { count ≤ table.now.across }
-    requires row { sy < table.now.down }
-    ensures { OnOk result (encoder.new ≡ narrowed_by encoder.old
-        (superblock_row (part_at part table.now) table.now sy count)) }
-{
-    'superblocks: for n in 0..count {
-        match write_superblock(encoder, table, part, n, sy) {
             Ok(()) => {}
             Err(e) => return Err(e),
         }

@@ -1,7 +1,6 @@
 ghost use Rattle.std.specs.Prelude.{◌≡◌, ℕ, ◌+◌, ◌*◌, ◌^◌, ◌<◌, ◌≤◌};
-ghost use Rattle.dirac_arith.specs.Coded.{read_coded, repeated};
+ghost use Rattle.dirac_arith.specs.Coded.{read_coded};
 ghost use Rattle.dirac_blocks.specs.Grammar.{superblock_step, unit_row_step, unit_read_step};
-ghost use Rattle.dirac_blocks.specs.Grammar.{units_step};
 ghost use Rattle.dirac_blocks.specs.Reached.{IsFirstOfUnit, StepMoves, SameShape};
 
 use crate::parts::ListKind;
@@ -69,7 +68,7 @@ fn read_unit_row(
 }
 
 /// Reads the units of superblock `sx` of row `sy`.
-fn read_superblock(
+pub fn read_superblock(
     decoder: &mut Decoder<'_>,
     table: &mut BlockData,
     part: ListKind,
@@ -92,53 +91,6 @@ fn read_superblock(
     'rows: for n in 0..across {
         let row = top + n * size;
         match read_unit_row(decoder, table, part, size, left, row, across) {
-            Ok(()) => {}
-            Err(cause) => return Err(cause),
-        }
-    }
-    Ok(())
-}
-
-/// Reads the first `count` superblocks of row `sy`.
-fn read_superblock_row(
-    decoder: &mut Decoder<'_>,
-    table: &mut BlockData,
-    part: ListKind,
-    sy: u32,
-    count: u32,
-) -> Result<(), Cause>
-    requires column { count ≤ table.old.across }
-    requires row { sy < table.old.down }
-    requires no_overflow { decoder.old.at.doublings < 2 ^ 56 }
-    ensures value { StepMoves result table.new decoder.new
-        (read_coded (repeated (superblock_step part sy) count table.old)
-        decoder.old) }
-    ensures shape { SameShape table.old table.new }
-    ensures few_doublings { decoder.new.at.doublings ≤ decoder.old.at.doublings + 11232 * count }
-{
-    'superblocks: for n in 0..count {
-        match read_superblock(decoder, table, part, n, sy) {
-            Ok(()) => {}
-            Err(cause) => return Err(cause),
-        }
-    }
-    Ok(())
-}
-
-/// Reads what this list tells of all units.
-pub fn read_units(
-    decoder: &mut Decoder<'_>,
-    table: &mut BlockData,
-    part: ListKind,
-) -> Result<(), Cause>
-    requires at_the_start { decoder.old.at.doublings ≡ 0 }
-    ensures value { StepMoves result table.new decoder.new (read_coded (units_step part table.old) decoder.old) }
-    ensures shape { SameShape table.old table.new }
-{
-    let across = table.across();
-    let down = table.down();
-    'rows: for n in 0..down {
-        match read_superblock_row(decoder, table, part, n, across) {
             Ok(()) => {}
             Err(cause) => return Err(cause),
         }

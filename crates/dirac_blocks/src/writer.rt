@@ -1,14 +1,13 @@
-ghost use Rattle.std.specs.Prelude.{◌≡◌, ◌+◌, ◌^◌, ◌<◌, length, IfOk, OnErr, OnOk};
-ghost use Rattle.dirac_arith.specs.Written.{flush};
+ghost use Rattle.std.specs.Prelude.{◌≡◌, ◌+◌, ◌^◌, ◌<◌, length, OnErr, OnOk};
 ghost use Rattle.dirac_bits.specs.Fronts.{HoldsFront};
 ghost use Rattle.dirac_bits.specs.Writing.{IsWhole};
 ghost use Rattle.dirac_bits.specs.Spelling.{SpelledBehind};
 ghost use Rattle.dirac_blocks.specs.Decisions.{block_decisions, least_numbers};
 ghost use Rattle.dirac_blocks.specs.Grammar.{blocks as blocks_grammar};
-ghost use Rattle.dirac_blocks.specs.Parts.{list_decisions, list_there};
+ghost use Rattle.dirac_blocks.specs.Parts.{list_there};
 ghost use Rattle.dirac_blocks.specs.Written.{ListsHaveShortBlocks, with_block, with_lists};
 
-use crate::list_writer::{part_block, split_block};
+use crate::list_writer::list_block;
 use crate::parts::{LISTS, ListKind, is_there};
 use dirac_bits::BitWriter;
 use dirac_block_table::BlockData;
@@ -34,16 +33,6 @@ fn write_block(w: &mut BitWriter, block: &[u8]) -> Result<(), NoMemory>
             Err(e) => Err(e),
         },
         Err(e) => Err(e),
-    }
-}
-
-/// The arithmetic block of a list.
-fn list_block(alloc: Global, table: &BlockData, list: Option<ListKind>) -> Result<Vec<u8>, NoMemory>
-    ensures { IfOk result (λ block. block.items ≡ flush (list_decisions list table.now)) }
-{
-    match list {
-        None => split_block(alloc, table),
-        Some(part) => part_block(alloc, table, part),
     }
 }
 

@@ -1,4 +1,4 @@
-use Rattle.std.proofs.Common.{◌≡◌, ℕ, ◌+◌, refl, sym, ap, ◌∙◌, arith}
+use Rattle.std.proofs.Common.{◌≡◌, ℕ, ◌+◌, refl, sym, ap, ◌∙◌, arith, ◌≤◌, List, length, subst}
 use Rattle.dirac_bits.specs.Syntax.{read}
 use Rattle.dirac_blocks.specs.Grammar.{lists_of}
 use Rattle.dirac_blocks.specs.Parts.{is_there}
@@ -43,3 +43,21 @@ returns-in-Err-clause-value c =
     let refs : t.refs ≡ c.refs-refs.result = c.lists.invariant.size.refs ∙ sym c.refs-refs.ensures.value in
     let there = ap (λ (r : ℕ). is_there (list_at n) r) refs ∙ sym c.is_there.ensures ∙ c.if-is_there.true in
     c.lists.invariant.value ∙ list_stops n t c.lists.r c.in-Err.e (omega arith) there c.in-Err.ensures.value
+
+pub returns-in-Err-clause-size : goal.returns-in-Err-clause-size
+returns-in-Err-clause-size c = size_join c.args.table.now c.lists.table c.read_list.new.table c.lists.invariant.size c.read_list.ensures.size
+
+pub returns-in-Err-clause-place_inside : goal.returns-in-Err-clause-place_inside
+returns-in-Err-clause-place_inside c = subst (λ (bs : List ℕ). c.in-Err.e.at ≤ length bs) c.lists.invariant.kept c.in-Err.ensures.place_inside
+
+pub returns-in-Err-clause-kept : goal.returns-in-Err-clause-kept
+returns-in-Err-clause-kept c = c.read_list.ensures.kept ∙ c.lists.invariant.kept
+
+pub returns-clause-size : goal.returns-clause-size
+returns-clause-size c = c.lists.invariant.size
+
+pub returns-clause-kept : goal.returns-clause-kept
+returns-clause-kept c = c.lists.invariant.kept
+
+pub returns-clause-place_inside : goal.returns-clause-place_inside
+returns-clause-place_inside c = tt

@@ -1,4 +1,4 @@
-use Rattle.std.proofs.Common.{◌+◌, ◌%◌, ℕ, ap, ◌∙◌, arith}
+use Rattle.std.proofs.Common.{◌+◌, ◌%◌, ℕ, ap, ◌∙◌, arith, refl}
 use Rattle.dirac_blocks.specs.Grammar.{with_split}
 use Rattle.dirac_blocks.proofs.Shapes.{blocks_refl, split_found, split_refused, split_written}
 use Rattle.dirac_blocks.proofs.split_reader.read_split.Goals as goal
@@ -32,3 +32,27 @@ returns-in-Err-clause-blocks c = blocks_refl c.args.table.now
 
 pub returns-in-Err-clause-few_doublings : goal.returns-in-Err-clause-few_doublings
 returns-in-Err-clause-few_doublings c = c.number.ensures.few_doublings
+
+pub number-requires-clause-not_empty : goal.number-requires-clause-not_empty
+number-requires-clause-not_empty c = omega arith
+
+pub number-requires-clause-follow : goal.number-requires-clause-follow
+number-requires-clause-follow c = refl
+
+pub number-requires-clause-bits : goal.number-requires-clause-bits
+number-requires-clause-bits c = omega arith
+
+pub number-requires-clause-no_overflow : goal.number-requires-clause-no_overflow
+number-requires-clause-no_overflow c = c.requires.no_overflow
+
+pub predict_split_at-prediction-requires-clause-column : goal.predict_split_at-prediction-requires-clause-column
+predict_split_at-prediction-requires-clause-column c = c.requires.column
+
+pub predict_split_at-prediction-requires-clause-row : goal.predict_split_at-prediction-requires-clause-row
+predict_split_at-prediction-requires-clause-row c = c.requires.row
+
+pub set_split-requires-clause-across : goal.set_split-requires-clause-across
+set_split-requires-clause-across c = c.requires.column
+
+pub set_split-requires-clause-down : goal.set_split-requires-clause-down
+set_split-requires-clause-down c = c.requires.row

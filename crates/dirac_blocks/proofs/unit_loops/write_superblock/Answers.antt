@@ -62,3 +62,18 @@ returns c =
     ∙ ap (λ (ds : List Decision). narrowed_by c.args.encoder.now ds)
     (superblock_told (part_at c.args.part t) t c.args.sx c.args.sy c.split-split.result c.unit_blocks-size.result c.units_across-across.result c.rows.n
     c.split-split.ensures.value c.unit_blocks-size.ensures.value c.units_across-across.ensures.value (omega arith))
+
+pub split-split-requires-clause-across : goal.split-split-requires-clause-across
+split-split-requires-clause-across c = c.requires.column
+
+pub split-split-requires-clause-down : goal.split-split-requires-clause-down
+split-split-requires-clause-down c = c.requires.row
+
+pub unit_blocks-size-requires : goal.unit_blocks-size-requires
+unit_blocks-size-requires c = c.split-split.ensures.at_most_2
+
+pub units_across-across-requires : goal.units_across-across-requires
+units_across-across-requires c = c.split-split.ensures.at_most_2
+
+pub returns-in-Err : goal.returns-in-Err
+returns-in-Err c = tt

@@ -1,8 +1,9 @@
-use Rattle.std.proofs.Common.{◌+◌, ◌*◌, refl}
+use Rattle.std.proofs.Common.{◌+◌, ◌*◌, refl, arith}
 use Rattle.dirac_arith.proofs.Spellings.{narrowed_more}
 use Rattle.dirac_blocks.specs.Parts.{part_at}
 use Rattle.dirac_blocks.specs.Decisions.{unit_row}
 use Rattle.dirac_blocks.proofs.Narrowing.{unit_row_next}
+use Rattle.dirac_blocks.proofs.Shapes.{unit_within}
 use Rattle.dirac_blocks.proofs.unit_loops.write_unit_row.Goals as goal
 
 pub units-init : goal.units-init
@@ -19,3 +20,12 @@ units-preserved c =
     let j = c.args.j in
     narrowed_more c.args.encoder.now c.units.encoder c.write_unit.new.encoder (unit_row p size i j n) (p (i + n * size) j) (unit_row p size i j (n + 1))
     c.units.invariant c.in-Ok.ensures (unit_row_next p size i j n)
+
+pub write_unit-requires-clause-column : goal.write_unit-requires-clause-column
+write_unit-requires-clause-column c = omega (arith, unit_within c.args.i c.units.n c.args.count c.args.size (4 * c.args.table.now.across) (omega arith) c.requires.size c.requires.column)
+
+pub write_unit-requires-clause-row : goal.write_unit-requires-clause-row
+write_unit-requires-clause-row c = c.requires.row
+
+pub returns-in-Err : goal.returns-in-Err
+returns-in-Err c = tt

@@ -1,4 +1,4 @@
-use Rattle.std.proofs.Common.{rules, ◌≡◌, ℤ, Result, true, false, not, ◌||◌, ap, ◌∙◌, subst, sym, to_z, of_z, w32, Ok, Err, [], ◌∷◌}
+use Rattle.std.proofs.Common.{rules, ◌≡◌, ℤ, Result, true, false, not, ◌||◌, ap, ◌∙◌, subst, sym, to_z, of_z, w32, Ok, Err, [], ◌∷◌, arith, refl}
 use Rattle.dirac_common.specs.declared.faults.Cause.TheVariants as causes
 use Rattle.dirac_common.specs.declared.faults.Cause.{Cause}
 use Rattle.dirac_arith.specs.Coded.{read_coded}
@@ -71,3 +71,45 @@ returns-then-block-clause-value c =
 pub read_value-requires-clause-prediction : goal.read_value-requires-clause-prediction
 read_value-requires-clause-prediction c =
     subst IsShort (sym (passed _ c.predicted_dc-prediction.ensures.short)) c.predicted_dc-prediction.ensures.short
+
+pub at-block-requires-clause-across : goal.at-block-requires-clause-across
+at-block-requires-clause-across c = c.requires.column
+
+pub at-block-requires-clause-down : goal.at-block-requires-clause-down
+at-block-requires-clause-down c = c.requires.row
+
+pub predicted_dc-prediction-requires-clause-column : goal.predicted_dc-prediction-requires-clause-column
+predicted_dc-prediction-requires-clause-column c = c.requires.column
+
+pub predicted_dc-prediction-requires-clause-row : goal.predicted_dc-prediction-requires-clause-row
+predicted_dc-prediction-requires-clause-row c = c.requires.row
+
+pub read_value-requires-clause-not_empty : goal.read_value-requires-clause-not_empty
+read_value-requires-clause-not_empty c = omega arith
+
+pub read_value-requires-clause-follow : goal.read_value-requires-clause-follow
+read_value-requires-clause-follow c = refl
+
+pub read_value-requires-clause-bits : goal.read_value-requires-clause-bits
+read_value-requires-clause-bits c = omega arith
+
+pub read_value-requires-clause-sign : goal.read_value-requires-clause-sign
+read_value-requires-clause-sign c = omega arith
+
+pub read_value-requires-clause-no_overflow : goal.read_value-requires-clause-no_overflow
+read_value-requires-clause-no_overflow c = c.requires.no_overflow
+
+pub returns-then-block-clause-block : goal.returns-then-block-clause-block
+returns-then-block-clause-block c = c.at-block.ensures.block
+
+pub returns-then-block-clause-few_doublings : goal.returns-then-block-clause-few_doublings
+returns-then-block-clause-few_doublings c = omega arith
+
+pub returns-in-Ok-clause-few_doublings : goal.returns-in-Ok-clause-few_doublings
+returns-in-Ok-clause-few_doublings c = c.read_value.ensures.few_doublings
+
+pub returns-in-Err-clause-few_doublings : goal.returns-in-Err-clause-few_doublings
+returns-in-Err-clause-few_doublings c = c.read_value.ensures.few_doublings
+
+pub returns-in-Err-clause-block : goal.returns-in-Err-clause-block
+returns-in-Err-clause-block c = tt

@@ -1,4 +1,4 @@
-use Rattle.std.proofs.Common.{◌≡◌, Bool, Result, Ok, ap, sym, ◌∙◌}
+use Rattle.std.proofs.Common.{◌≡◌, Bool, Result, Ok, ap, sym, ◌∙◌, arith}
 use Rattle.dirac_common.specs.declared.faults.Cause.{Cause}
 use Rattle.dirac_arith.specs.Reading.{Reading}
 use Rattle.dirac_vectors.specs.Predictions.{mode_of}
@@ -27,3 +27,39 @@ returns-in-Err-read_second_use-clause-value c =
 
 pub returns-in-Err-clause-value : goal.returns-in-Err-clause-value
 returns-in-Err-clause-value c = mode_refused c.args.table.now c.args.i c.args.j c.args.decoder.now c.in-Err.e c.in-Err.ensures.read
+
+pub decision-requires-clause-context : goal.decision-requires-clause-context
+decision-requires-clause-context c = omega arith
+
+pub decision-requires-clause-no_overflow : goal.decision-requires-clause-no_overflow
+decision-requires-clause-no_overflow c = omega (arith, c.requires.no_overflow)
+
+pub predicted_use_bit-prediction-requires-clause-column : goal.predicted_use_bit-prediction-requires-clause-column
+predicted_use_bit-prediction-requires-clause-column c = c.requires.column
+
+pub predicted_use_bit-prediction-requires-clause-row : goal.predicted_use_bit-prediction-requires-clause-row
+predicted_use_bit-prediction-requires-clause-row c = c.requires.row
+
+pub read_second_use-requires-clause-column : goal.read_second_use-requires-clause-column
+read_second_use-requires-clause-column c = c.requires.column
+
+pub read_second_use-requires-clause-row : goal.read_second_use-requires-clause-row
+read_second_use-requires-clause-row c = c.requires.row
+
+pub read_second_use-requires-clause-no_overflow : goal.read_second_use-requires-clause-no_overflow
+read_second_use-requires-clause-no_overflow c = omega (arith, c.requires.no_overflow, c.decision.ensures.few_doublings)
+
+pub returns-in-Ok-read_second_use-clause-few_doublings : goal.returns-in-Ok-read_second_use-clause-few_doublings
+returns-in-Ok-read_second_use-clause-few_doublings c = omega (arith, c.decision.ensures.few_doublings, c.read_second_use.ensures.few_doublings)
+
+pub returns-in-Err-read_second_use-clause-few_doublings : goal.returns-in-Err-read_second_use-clause-few_doublings
+returns-in-Err-read_second_use-clause-few_doublings c = omega (arith, c.decision.ensures.few_doublings, c.read_second_use.ensures.few_doublings)
+
+pub returns-in-Err-clause-few_doublings : goal.returns-in-Err-clause-few_doublings
+returns-in-Err-clause-few_doublings c = omega (arith, c.decision.ensures.few_doublings)
+
+pub returns-in-Err-read_second_use-clause-block : goal.returns-in-Err-read_second_use-clause-block
+returns-in-Err-read_second_use-clause-block c = tt
+
+pub returns-in-Err-clause-block : goal.returns-in-Err-clause-block
+returns-in-Err-clause-block c = tt

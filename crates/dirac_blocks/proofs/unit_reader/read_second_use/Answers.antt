@@ -20,3 +20,24 @@ pub returns-in-Ok-clause-single : goal.returns-in-Ok-clause-single
 returns-in-Ok-clause-single c =
     let two = sym c.refs.ensures.value ∙ c.if-refs-ne2.false in
     λ one. absurd (omega arith)
+
+pub decision-requires-clause-context : goal.decision-requires-clause-context
+decision-requires-clause-context c = omega arith
+
+pub decision-requires-clause-no_overflow : goal.decision-requires-clause-no_overflow
+decision-requires-clause-no_overflow c = omega (arith, c.requires.no_overflow)
+
+pub predicted_use_bit-prediction-requires-clause-column : goal.predicted_use_bit-prediction-requires-clause-column
+predicted_use_bit-prediction-requires-clause-column c = c.requires.column
+
+pub predicted_use_bit-prediction-requires-clause-row : goal.predicted_use_bit-prediction-requires-clause-row
+predicted_use_bit-prediction-requires-clause-row c = c.requires.row
+
+pub returns-in-Ok-clause-few_doublings : goal.returns-in-Ok-clause-few_doublings
+returns-in-Ok-clause-few_doublings c = c.decision.ensures.few_doublings
+
+pub returns-in-Err-clause-few_doublings : goal.returns-in-Err-clause-few_doublings
+returns-in-Err-clause-few_doublings c = c.decision.ensures.few_doublings
+
+pub returns-then-refs-ne2-clause-few_doublings : goal.returns-then-refs-ne2-clause-few_doublings
+returns-then-refs-ne2-clause-few_doublings c = omega arith

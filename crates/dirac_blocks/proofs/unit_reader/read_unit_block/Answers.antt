@@ -36,3 +36,39 @@ returns-in-Dc-clause-block c = c.read_dc.ensures.block
 
 pub returns-in-Dc-clause-few_doublings : goal.returns-in-Dc-clause-few_doublings
 returns-in-Dc-clause-few_doublings c = c.read_dc.ensures.few_doublings
+
+pub read_mode-requires-clause-column : goal.read_mode-requires-clause-column
+read_mode-requires-clause-column c = c.requires.column
+
+pub read_mode-requires-clause-row : goal.read_mode-requires-clause-row
+read_mode-requires-clause-row c = c.requires.row
+
+pub read_vector-requires-clause-column : goal.read_vector-requires-clause-column
+read_vector-requires-clause-column c = c.requires.column
+
+pub read_vector-requires-clause-row : goal.read_vector-requires-clause-row
+read_vector-requires-clause-row c = c.requires.row
+
+pub read_vector-requires-in-Down-clause-column : goal.read_vector-requires-in-Down-clause-column
+read_vector-requires-in-Down-clause-column c = c.requires.column
+
+pub read_vector-requires-in-Down-clause-row : goal.read_vector-requires-in-Down-clause-row
+read_vector-requires-in-Down-clause-row c = c.requires.row
+
+pub read_dc-requires-clause-column : goal.read_dc-requires-clause-column
+read_dc-requires-clause-column c = c.requires.column
+
+pub read_dc-requires-clause-row : goal.read_dc-requires-clause-row
+read_dc-requires-clause-row c = c.requires.row
+
+pub read_mode-requires-clause-no_overflow : goal.read_mode-requires-clause-no_overflow
+read_mode-requires-clause-no_overflow c = c.requires.no_overflow
+
+pub read_vector-requires-clause-no_overflow : goal.read_vector-requires-clause-no_overflow
+read_vector-requires-clause-no_overflow c = omega (arith, c.requires.no_overflow)
+
+pub read_vector-requires-in-Down-clause-no_overflow : goal.read_vector-requires-in-Down-clause-no_overflow
+read_vector-requires-in-Down-clause-no_overflow c = omega (arith, c.requires.no_overflow)
+
+pub read_dc-requires-clause-no_overflow : goal.read_dc-requires-clause-no_overflow
+read_dc-requires-clause-no_overflow c = omega (arith, c.requires.no_overflow)

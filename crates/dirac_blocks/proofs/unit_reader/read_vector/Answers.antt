@@ -1,4 +1,4 @@
-use Rattle.std.proofs.Common.{◌≡◌, ℤ, Result, true, false, ap, ◌∙◌, subst, sym, to_z, of_z, w32, Ok, Err}
+use Rattle.std.proofs.Common.{◌≡◌, ℤ, Result, true, false, ap, ◌∙◌, subst, sym, to_z, of_z, w32, Ok, Err, arith, refl}
 use Rattle.dirac_common.specs.declared.faults.Cause.{Cause}
 use Rattle.dirac_arith.specs.Coded.{Coded, read_coded}
 use Rattle.dirac_arith.specs.Reading.{Reading}
@@ -71,3 +71,51 @@ returns-then-not-has_reference-clause-value c =
     ap (λ (s : Coded Block). read_coded s old) (component_is a k t c.args.i c.args.j)
     ∙ into_none (uses k b) b (with_component a k) (component_coded p) old unused
     ∙ ap (λ (x : Block). let q : Result (Block × Reading) Cause = Ok (x, old) in q) (sym c.at-block.ensures.value)
+
+pub at-block-requires-clause-across : goal.at-block-requires-clause-across
+at-block-requires-clause-across c = c.requires.column
+
+pub at-block-requires-clause-down : goal.at-block-requires-clause-down
+at-block-requires-clause-down c = c.requires.row
+
+pub predicted_vector-requires-clause-column : goal.predicted_vector-requires-clause-column
+predicted_vector-requires-clause-column c = c.requires.column
+
+pub predicted_vector-requires-clause-row : goal.predicted_vector-requires-clause-row
+predicted_vector-requires-clause-row c = c.requires.row
+
+pub component-prediction-requires : goal.component-prediction-requires
+component-prediction-requires c = c.predicted_vector.ensures.short
+
+pub read_value-requires-clause-not_empty : goal.read_value-requires-clause-not_empty
+read_value-requires-clause-not_empty c = omega arith
+
+pub read_value-requires-clause-follow : goal.read_value-requires-clause-follow
+read_value-requires-clause-follow c = refl
+
+pub read_value-requires-clause-bits : goal.read_value-requires-clause-bits
+read_value-requires-clause-bits c = omega arith
+
+pub read_value-requires-clause-sign : goal.read_value-requires-clause-sign
+read_value-requires-clause-sign c = omega arith
+
+pub read_value-requires-clause-prediction : goal.read_value-requires-clause-prediction
+read_value-requires-clause-prediction c = subst IsShort (sym (passed _ c.component-prediction.ensures.short)) c.component-prediction.ensures.short
+
+pub read_value-requires-clause-no_overflow : goal.read_value-requires-clause-no_overflow
+read_value-requires-clause-no_overflow c = c.requires.no_overflow
+
+pub returns-then-not-has_reference-clause-block : goal.returns-then-not-has_reference-clause-block
+returns-then-not-has_reference-clause-block c = c.at-block.ensures.block
+
+pub returns-then-not-has_reference-clause-few_doublings : goal.returns-then-not-has_reference-clause-few_doublings
+returns-then-not-has_reference-clause-few_doublings c = omega arith
+
+pub returns-in-Ok-clause-few_doublings : goal.returns-in-Ok-clause-few_doublings
+returns-in-Ok-clause-few_doublings c = c.read_value.ensures.few_doublings
+
+pub returns-in-Err-clause-few_doublings : goal.returns-in-Err-clause-few_doublings
+returns-in-Err-clause-few_doublings c = c.read_value.ensures.few_doublings
+
+pub returns-in-Err-clause-block : goal.returns-in-Err-clause-block
+returns-in-Err-clause-block c = tt

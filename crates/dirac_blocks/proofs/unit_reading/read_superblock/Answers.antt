@@ -93,3 +93,15 @@ returns-in-Err-clause-shape c = shape_join c.args.table.now c.rows.table c.read_
 
 pub returns-in-Err-clause-few_doublings : goal.returns-in-Err-clause-few_doublings
 returns-in-Err-clause-few_doublings c = omega (arith, c.rows.invariant.few_doublings, c.read_unit_row.ensures.few_doublings, c.units_across-across.ensures.at_most_4)
+
+pub split-split-requires-clause-across : goal.split-split-requires-clause-across
+split-split-requires-clause-across c = c.requires.column
+
+pub split-split-requires-clause-down : goal.split-split-requires-clause-down
+split-split-requires-clause-down c = c.requires.row
+
+pub unit_blocks-size-requires : goal.unit_blocks-size-requires
+unit_blocks-size-requires c = c.split-split.ensures.at_most_2
+
+pub units_across-across-requires : goal.units_across-across-requires
+units_across-across-requires c = c.split-split.ensures.at_most_2

@@ -41,3 +41,12 @@ pub read_unit-requires-clause-row : goal.read_unit-requires-clause-row
 read_unit-requires-clause-row c =
     let same = c.units.invariant.shape.down in
     omega arith
+
+pub read_unit-requires-clause-no_overflow : goal.read_unit-requires-clause-no_overflow
+read_unit-requires-clause-no_overflow c = omega (arith, c.units.invariant.few_doublings, c.requires.at_most_4)
+
+pub returns-in-Err-clause-few_doublings : goal.returns-in-Err-clause-few_doublings
+returns-in-Err-clause-few_doublings c = omega (arith, c.units.invariant.few_doublings, c.read_unit.ensures.few_doublings)
+
+pub returns-clause-shape : goal.returns-clause-shape
+returns-clause-shape c = c.units.invariant.shape

@@ -20,3 +20,15 @@ pub returns : goal.returns
 returns c =
     let both = difference_passed c.from.result c.from-2.result c.args.value c.args.prediction c.from.ensures c.from-2.ensures c.requires.value c.requires.prediction in
     on_ok_weaker c.signed.result (λ e. e ∙ ap (λ (v : ℤ). narrowed_by c.args.encoder.now (signed_spelling c.args.follow.now c.args.bits c.args.sign v)) both) c.signed.ensures
+
+pub signed-requires-clause-not_empty : goal.signed-requires-clause-not_empty
+signed-requires-clause-not_empty c = c.requires.not_empty
+
+pub signed-requires-clause-follow : goal.signed-requires-clause-follow
+signed-requires-clause-follow c = c.requires.follow
+
+pub signed-requires-clause-bits : goal.signed-requires-clause-bits
+signed-requires-clause-bits c = c.requires.bits
+
+pub signed-requires-clause-sign : goal.signed-requires-clause-sign
+signed-requires-clause-sign c = c.requires.sign

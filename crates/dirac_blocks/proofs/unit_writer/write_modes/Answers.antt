@@ -1,4 +1,4 @@
-use Rattle.std.proofs.Common.{◌≡◌, ap, ap₂, sym, ◌∙◌}
+use Rattle.std.proofs.Common.{◌≡◌, ap, ap₂, sym, ◌∙◌, arith}
 use Rattle.std.proofs.lemmas.Result.{on_ok_weaker}
 use Rattle.dirac_vectors.specs.Predictions.{mode_of}
 use Rattle.dirac_block_table.specs.declared.block.Block.{Block}
@@ -28,3 +28,30 @@ returns-else-refs-ne2 c =
     on_ok_weaker c.decision-in-Ok.result
     (λ e. both_told t i j c.differs.result c.differs-in-Ok.result c.args.encoder.now c.decision.new.self c.decision-in-Ok.new.self (sym c.refs.ensures.value ∙ c.if-refs-ne2.false) first second c.in-Ok.ensures.taken e)
     c.decision-in-Ok.ensures.taken
+
+pub at-block-requires-clause-across : goal.at-block-requires-clause-across
+at-block-requires-clause-across c = c.requires.column
+
+pub at-block-requires-clause-down : goal.at-block-requires-clause-down
+at-block-requires-clause-down c = c.requires.row
+
+pub predicted_use_bit-first-requires-clause-column : goal.predicted_use_bit-first-requires-clause-column
+predicted_use_bit-first-requires-clause-column c = c.requires.column
+
+pub predicted_use_bit-first-requires-clause-row : goal.predicted_use_bit-first-requires-clause-row
+predicted_use_bit-first-requires-clause-row c = c.requires.row
+
+pub predicted_use_bit-second-requires-clause-column : goal.predicted_use_bit-second-requires-clause-column
+predicted_use_bit-second-requires-clause-column c = c.requires.column
+
+pub predicted_use_bit-second-requires-clause-row : goal.predicted_use_bit-second-requires-clause-row
+predicted_use_bit-second-requires-clause-row c = c.requires.row
+
+pub decision-requires : goal.decision-requires
+decision-requires c = omega arith
+
+pub decision-requires-in-Ok : goal.decision-requires-in-Ok
+decision-requires-in-Ok c = omega arith
+
+pub returns-in-Err : goal.returns-in-Err
+returns-in-Err c = tt
