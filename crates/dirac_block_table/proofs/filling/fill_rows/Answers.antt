@@ -1,4 +1,4 @@
-use Rattle.std.proofs.Common.{refl, ◌∙◌, ap, sym, ◌+◌, ◌*◌, ◌≤◌, List, arith}
+use Rattle.std.proofs.Common.{refl, ◌∙◌, ap, sym, ◌+◌, ◌*◌, ◌≤◌, List, arith, ◌≡◌, ℕ, subst}
 use Rattle.std.proofs.lemmas.Nat.{mul-le}
 use Rattle.dirac_block_table.specs.declared.block.Block.{Block}
 use Rattle.dirac_block_table.specs.Filling.{row_filled, rows_filled}
@@ -41,3 +41,11 @@ fill_row-requires-clause-inside c =
 
 pub fill_row-requires-clause-at_most_2_24 : goal.fill_row-requires-clause-at_most_2_24
 fill_row-requires-clause-at_most_2_24 c = omega (arith, c.rows.invariant.len)
+
+pub returns-clause-exact : goal.returns-clause-exact
+returns-clause-exact c =
+    let all : c.rows.n ≡ c.args.count = omega arith in
+    subst (λ (n : ℕ). c.rows.blocks.items ≡ rows_filled c.args.width c.args.blocks.now.items c.args.size c.args.i c.args.j c.args.block n) all c.rows.invariant.exact
+
+pub returns-clause-len : goal.returns-clause-len
+returns-clause-len c = c.rows.invariant.len

@@ -1,6 +1,6 @@
-use Rattle.std.proofs.Common.{◌≡◌, ◌+◌, ◌*◌, ◌/◌, ◌^◌, ◌≤◌, length, arith, refl, subst}
+use Rattle.std.proofs.Common.{◌≡◌, ◌+◌, ◌*◌, ◌/◌, ◌^◌, ◌≤◌, length, arith, refl, subst, ℕ}
 use Rattle.std.proofs.lemmas.Nat.{mul-le}
-use Rattle.dirac_block_table.specs.Puts.{RowPut}
+use Rattle.dirac_block_table.specs.Puts.{RowPut, RowsPut}
 use Rattle.dirac_block_table.specs.Tables.{unit_size}
 use Rattle.dirac_block_table.proofs.Putting.{rows_more, row_lawful}
 use Rattle.dirac_block_table.proofs.Units.{row_fits}
@@ -45,3 +45,26 @@ rows-preserved c =
       lawful = λ refs us os.
           row_lawful refs start split units raw c.rows.blocks.items c.put_row.new.blocks.items c.requires.split fits c.put_row.ensures us (c.rows.invariant.lawful refs us os);
     }
+
+pub unit_blocks-size-requires : goal.unit_blocks-size-requires
+unit_blocks-size-requires c = c.requires.split
+
+pub units_across-across-requires : goal.units_across-across-requires
+units_across-across-requires c = c.requires.split
+
+pub nonzero_div-j : goal.nonzero_div-j
+nonzero_div-j c = omega (arith, c.unit_blocks-size.ensures.at_least_1)
+
+pub put_row-requires-clause-split : goal.put_row-requires-clause-split
+put_row-requires-clause-split c = c.requires.split
+
+pub put_row-requires-clause-at_most_2_24 : goal.put_row-requires-clause-at_most_2_24
+put_row-requires-clause-at_most_2_24 c = omega (arith, c.rows.invariant.rows.len)
+
+pub returns-clause-rows : goal.returns-clause-rows
+returns-clause-rows c =
+    let all : c.rows.j ≡ 4 = omega arith in
+    subst (λ (n : ℕ). RowsPut c.args.width c.args.left c.args.top c.args.split c.args.units.now n c.args.blocks.now.items c.rows.blocks.items) all c.rows.invariant.rows
+
+pub returns-clause-lawful : goal.returns-clause-lawful
+returns-clause-lawful c = c.rows.invariant.lawful

@@ -26,3 +26,6 @@ returns-clause-block c =
     let t : BlockTable = record { across = c.self.inside.across; down = c.self.inside.down; refs = c.self.inside.refs; splits = c.self.inside.splits.items; blocks = c.self.inside.blocks.items } in
     let fits = block_inside t c.args.self.now c.args.i c.args.j c.self.view_is c.self.invariant c.requires.across c.requires.down in
     rw (← c.self.view_is) (subst (IsBlock t.refs) (sym c.index.ensures) (c.self.invariant.blocks (c.args.j * (4 * t.across) + c.args.i) c.index.result.now fits))
+
+pub returns-clause-lawful : goal.returns-clause-lawful
+returns-clause-lawful c = rw (← c.self.view_is) c.self.invariant

@@ -17,3 +17,6 @@ pub index-requires : goal.index-requires
 index-requires c =
     let t : BlockTable = record { across = c.self.inside.across; down = c.self.inside.down; refs = c.self.inside.refs; splits = c.self.inside.splits.items; blocks = c.self.inside.blocks.items } in
     omega (arith, split_there t c.args.self.now c.args.sx c.args.sy c.self.view_is c.self.invariant c.requires.across c.requires.down, c.self.inside.splits.ok.0)
+
+pub returns-clause-lawful : goal.returns-clause-lawful
+returns-clause-lawful c = rw (← c.self.view_is) c.self.invariant
