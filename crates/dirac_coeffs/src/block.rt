@@ -1,5 +1,5 @@
 ghost use Rattle.std.specs.Prelude.{◌≡◌, ◌*◌, true, None, pos, length, replicate, IfOk};
-ghost use Rattle.dirac_coeffs.specs.Answers.{Fills, GivesBlock, GivesNarrow, Holds, stopped_at};
+ghost use Rattle.dirac_coeffs.specs.Answers.{GivesBlock, GivesNarrow, Holds, stopped_at};
 ghost use Rattle.dirac_coeffs.specs.BandRead.{band_read};
 ghost use Rattle.dirac_coeffs.specs.Carried.{AreLawful, CarriesLong, CarriesNoIndex};
 ghost use Rattle.dirac_coeffs.specs.Indices.{all_equal};
@@ -7,13 +7,12 @@ ghost use Rattle.dirac_coeffs.specs.Layouts.{IsBandLayout};
 ghost use Rattle.dirac_coeffs.specs.Lent.{IsNarrow, content_in, numbers_in, values_in};
 ghost use Rattle.dirac_common.specs.Limits.{IsIndex};
 
-use crate::codeblocks::{BandFrame, Filling, read_all};
+use crate::codeblocks::{BandFrame, Filling, read_content};
 use crate::coefficients::Coefficients;
 use crate::indices::equal_indices;
 use crate::layout::{BandBlock, BandLayout};
 use crate::numbers::Numbers;
 use crate::store::{Unread, Values};
-use dirac_arith::Decoder;
 use dirac_common::{Cause, NoMemory, Refusal, Stop};
 use std::alloc::Global;
 
@@ -36,18 +35,21 @@ fn zeros(alloc: Global, layout: BandLayout, wide: bool) -> Result<Values, NoMemo
     }
 }
 
-/// Reads a block into values that are zeros, and indices that are the band's.
-fn read_content(block: &[u8], filling: &mut Filling, frame: BandFrame<'_>) -> Result<(), Unread>
+/// What is read of a band before anything is: zeros, in 64 bits or in 32, and indices that are the band's.
+fn empty_filling(alloc: Global, frame: BandFrame<'_>, wide: bool) -> Result<Filling, NoMemory>
     requires layout { IsBandLayout frame.layout }
-    requires zeros { values_in filling.old.values ≡ replicate (frame.layout.width * frame.layout.height) (pos 0) }
-    requires equal { filling.old.indices ≡ all_equal frame.layout frame.index }
-    ensures value { Fills (IsNarrow filling.new.values) result (content_in filling.new)
-        (band_read frame.entry.layout (numbers_in frame.entry.parent) frame.entry.index block.now) }
-    ensures len { length (values_in filling.new.values) ≡ frame.entry.layout.width * frame.entry.layout.height }
-    ensures narrow { IsNarrow filling.new.values → IsNarrow filling.old.values }
+    ensures zeros { IfOk result (λ f. values_in f.values
+        ≡ replicate (frame.entry.layout.width * frame.entry.layout.height) (pos 0)) }
+    ensures equal { IfOk result (λ f. f.indices ≡ all_equal frame.entry.layout frame.entry.index) }
+    ensures wide { wide ≡ true → IfOk result (λ f. IsNarrow f.values → ⊥) }
 {
-    let mut decoder = Decoder::new(block);
-    read_all(&mut decoder, filling, frame)
+    match zeros(alloc, frame.layout, wide) {
+        Ok(values) => match equal_indices(alloc, frame.layout, frame.index) {
+            Ok(indices) => Ok(Filling { values, indices }),
+            Err(e) => Err(e),
+        },
+        Err(e) => Err(e),
+    }
 }
 
 /// The block of what was read.
@@ -91,26 +93,12 @@ fn read_as(
         (band_read frame.entry.layout (numbers_in frame.entry.parent) frame.entry.index block.now) }
     ensures wide_is_found { wide ≡ true → IfOk result (λ found. found ≡ None → ⊥) }
 {
-    let values = zeros(alloc, frame.layout, wide)?;
-    let indices = equal_indices(alloc, frame.layout, frame.index)?;
-    let mut filling = Filling { values, indices };
-    match read_content(block, &mut filling, frame) {
-        Ok(()) => held_block(alloc, frame.layout, filling),
-        Err(unread) => stopped(unread, at),
-    }
-}
-
-/// Reads a block in 64 bits.
-fn read_wide(alloc: Global, block: &[u8], at: u64, frame: BandFrame<'_>) -> Result<BandBlock, Stop>
-    requires layout { IsBandLayout frame.layout }
-    requires index { IsIndex frame.index }
-    ensures { GivesBlock frame.entry.layout at result
-        (band_read frame.entry.layout (numbers_in frame.entry.parent) frame.entry.index block.now) }
-{
-    match read_as(alloc, block, at, frame, true) {
-        Ok(Some(found)) => Ok(found),
-        Ok(None) => unreachable!(),
-        Err(stop) => Err(stop),
+    match empty_filling(alloc, frame, wide) {
+        Ok(mut filling) => match read_content(block, &mut filling, frame) {
+            Ok(()) => held_block(alloc, frame.layout, filling),
+            Err(unread) => stopped(unread, at),
+        },
+        Err(NoMemory) => Err(Stop::NoMemory),
     }
 }
 
@@ -123,7 +111,11 @@ fn read_lent(alloc: Global, block: &[u8], at: u64, frame: BandFrame<'_>) -> Resu
 {
     match read_as(alloc, block, at, frame, false) {
         Ok(Some(found)) => Ok(found),
-        Ok(None) => read_wide(alloc, block, at, frame),
+        Ok(None) => match read_as(alloc, block, at, frame, true) {
+            Ok(Some(found)) => Ok(found),
+            Ok(None) => unreachable!(),
+            Err(stop) => Err(stop),
+        },
         Err(stop) => Err(stop),
     }
 }

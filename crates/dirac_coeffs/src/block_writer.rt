@@ -6,7 +6,7 @@ ghost use Rattle.dirac_coeffs.specs.Lent.{numbers_in};
 ghost use Rattle.dirac_coeffs.specs.Written.{AreIndicesOf, block_of};
 ghost use Rattle.dirac_coeffs.specs.WrittenBand.{block_of_band};
 
-use crate::codeblock_writer::write_all;
+use crate::codeblock_writer::write_codeblocks;
 use crate::indices::Indices;
 use crate::layout::{BandLayout, WrittenBand};
 use crate::numbers::Numbers;
@@ -24,10 +24,13 @@ pub fn write_below(alloc: Global, band: WrittenBand<'_>) -> Result<Vec<u8>, NoMe
         band.entry.index block.items ≡ Ok (band_content (numbers_in band.entry.values) band.entry.indices.now)) }
 {
     let mut encoder = Encoder::new(alloc);
-    match write_all(&mut encoder, band) {
-        Ok(()) => encoder.finish(),
-        Err(e) => Err(e),
+    'down: for cy in 0..band.layout.down {
+        match write_codeblocks(&mut encoder, band, cy) {
+            Ok(()) => {}
+            Err(e) => return Err(e),
+        }
     }
+    encoder.finish()
 }
 
 /// The arithmetic block of a subband's coefficients, whose zero flags are true for codeblocks of zeros, and in

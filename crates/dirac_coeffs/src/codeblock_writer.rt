@@ -1,6 +1,6 @@
 ghost use Rattle.std.specs.Prelude.{◌≡◌, ◌<◌, OnOk};
 ghost use Rattle.dirac_arith.specs.Interval.{narrowed_by};
-ghost use Rattle.dirac_coeffs.specs.WrittenBand.{IsBandToWrite, blocks_of_row, rows_of_blocks, unskipped_block};
+ghost use Rattle.dirac_coeffs.specs.WrittenBand.{IsBandToWrite, blocks_of_row, unskipped_block};
 ghost use Rattle.dirac_coeffs.specs.WrittenBand.{whole_block};
 
 use crate::layout::WrittenBand;
@@ -54,7 +54,11 @@ fn write_codeblock(
 }
 
 /// Writes row `cy` of codeblocks.
-fn write_codeblocks(encoder: &mut Encoder, band: WrittenBand<'_>, cy: u32) -> Result<(), NoMemory>
+pub fn write_codeblocks(
+    encoder: &mut Encoder,
+    band: WrittenBand<'_>,
+    cy: u32,
+) -> Result<(), NoMemory>
     requires writable { IsBandToWrite band }
     requires row { cy < band.layout.down }
     ensures { OnOk result (encoder.new ≡ narrowed_by encoder.old
@@ -66,18 +70,6 @@ fn write_codeblocks(encoder: &mut Encoder, band: WrittenBand<'_>, cy: u32) -> Re
             column: cx,
         };
         write_codeblock(encoder, band, codeblock)?;
-    }
-    Ok(())
-}
-
-/// Writes all codeblocks of a band.
-pub fn write_all(encoder: &mut Encoder, band: WrittenBand<'_>) -> Result<(), NoMemory>
-    requires { IsBandToWrite band }
-    ensures { OnOk result (encoder.new ≡ narrowed_by encoder.old
-        (rows_of_blocks band.entry band.entry.layout.down)) }
-{
-    'down: for cy in 0..band.layout.down {
-        write_codeblocks(encoder, band, cy)?;
     }
     Ok(())
 }

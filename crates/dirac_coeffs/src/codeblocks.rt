@@ -1,8 +1,9 @@
-ghost use Rattle.std.specs.Prelude.{◌≡◌, ◌+◌, ◌*◌, ◌^◌, ◌<◌, ◌≤◌, length};
+ghost use Rattle.std.specs.Prelude.{◌≡◌, ◌+◌, ◌*◌, ◌^◌, ◌<◌, ◌≤◌, length, pos, replicate};
 ghost use Rattle.dirac_arith.specs.Coded.{read_coded};
-ghost use Rattle.dirac_coeffs.specs.Answers.{Flags, Goes};
-ghost use Rattle.dirac_coeffs.specs.BandRead.{unskipped_step, block_step, blocks_step};
-ghost use Rattle.dirac_coeffs.specs.BandRead.{block_rows_step};
+ghost use Rattle.dirac_coeffs.specs.Answers.{Fills, Flags, Goes};
+ghost use Rattle.dirac_coeffs.specs.BandRead.{block_step, blocks_step};
+ghost use Rattle.dirac_coeffs.specs.BandRead.{band_read};
+ghost use Rattle.dirac_coeffs.specs.Indices.{all_equal};
 ghost use Rattle.dirac_coeffs.specs.Layouts.{IsBandLayout, codeblock_extent};
 ghost use Rattle.dirac_coeffs.specs.Lent.{IsNarrow, content_in, numbers_in, values_in};
 
@@ -31,46 +32,6 @@ pub struct BandFrame<'a> {
     pub index: u8,
 }
 
-/// Reads a codeblock that isn't skipped: in mode 1 the offset of its index, and its values.
-fn read_unskipped(
-    decoder: &mut Decoder<'_>,
-    filling: &mut Filling,
-    frame: BandFrame<'_>,
-    codeblock: Codeblock,
-) -> Result<(), Unread>
-    requires layout { IsBandLayout frame.layout }
-    requires row { codeblock.row < frame.layout.down }
-    requires column { codeblock.column < frame.layout.across }
-    requires len { length (values_in filling.old.values) ≡ frame.layout.width * frame.layout.height }
-    requires count { length filling.old.indices ≡ frame.layout.across * frame.layout.down }
-    requires no_overflow { decoder.old.at.doublings < 2 ^ 57 + 9 }
-    ensures value { Goes (IsNarrow filling.new.values) result (content_in filling.new) decoder.new
-        (read_coded (unskipped_step frame.entry.layout (numbers_in frame.entry.parent) frame.entry.index codeblock.row
-        codeblock.column (content_in filling.old)) decoder.old) }
-    ensures len { length (values_in filling.new.values) ≡ length (values_in filling.old.values) }
-    ensures narrow { IsNarrow filling.new.values → IsNarrow filling.old.values }
-    ensures count { length filling.new.indices ≡ length filling.old.indices }
-    ensures few_doublings { decoder.new.at.doublings ≤ decoder.old.at.doublings + 702 + 702 * LARGEST_TABLE_SIDE
-        * codeblock_extent frame.entry.layout.width frame.entry.layout.across codeblock.column }
-{
-    match read_offset(
-        decoder,
-        &mut filling.indices,
-        frame.layout,
-        frame.index,
-        codeblock,
-    ) {
-        Ok(()) => read_block_values(
-            decoder,
-            &mut filling.values,
-            frame.layout,
-            frame.parent,
-            codeblock,
-        ),
-        Err(cause) => Err(Unread::Refused(cause)),
-    }
-}
-
 /// Reads the zero flag of a codeblock, which tells that it is skipped; false where there is none.
 fn read_flag(decoder: &mut Decoder<'_>, layout: BandLayout) -> Result<bool, Cause>
     requires { decoder.old.at.doublings < 2 ^ 62 }
@@ -83,7 +44,7 @@ fn read_flag(decoder: &mut Decoder<'_>, layout: BandLayout) -> Result<bool, Caus
     decoder.decision(ZERO_FLAG)
 }
 
-/// Reads a codeblock, unless its zero flag skips it.
+/// Reads a codeblock, unless its zero flag skips it: in mode 1 the offset of its index, and its values.
 fn read_codeblock(
     decoder: &mut Decoder<'_>,
     filling: &mut Filling,
@@ -111,7 +72,22 @@ fn read_codeblock(
                 note_former(&mut filling.indices, frame.layout, frame.index, codeblock);
                 return Ok(());
             }
-            read_unskipped(decoder, filling, frame, codeblock)
+            match read_offset(
+                decoder,
+                &mut filling.indices,
+                frame.layout,
+                frame.index,
+                codeblock,
+            ) {
+                Ok(()) => read_block_values(
+                    decoder,
+                    &mut filling.values,
+                    frame.layout,
+                    frame.parent,
+                    codeblock,
+                ),
+                Err(cause) => Err(Unread::Refused(cause)),
+            }
         }
         Err(cause) => Err(Unread::Refused(cause)),
     }
@@ -151,24 +127,19 @@ fn read_codeblocks(
     Ok(())
 }
 
-/// Reads all codeblocks of a band of this index into values that are zeros, and indices that are the band's.
-pub fn read_all(
-    decoder: &mut Decoder<'_>,
-    filling: &mut Filling,
-    frame: BandFrame<'_>,
-) -> Result<(), Unread>
+/// Reads a block into values that are zeros, and indices that are the band's.
+pub fn read_content(block: &[u8], filling: &mut Filling, frame: BandFrame<'_>) -> Result<(), Unread>
     requires layout { IsBandLayout frame.layout }
-    requires len { length (values_in filling.old.values) ≡ frame.layout.width * frame.layout.height }
-    requires count { length filling.old.indices ≡ frame.layout.across * frame.layout.down }
-    requires at_the_start { decoder.old.at.doublings ≡ 0 }
-    ensures value { Goes (IsNarrow filling.new.values) result (content_in filling.new) decoder.new
-        (read_coded (block_rows_step frame.entry.layout (numbers_in frame.entry.parent) frame.entry.index
-        frame.entry.layout.down (content_in filling.old)) decoder.old) }
-    ensures len { length (values_in filling.new.values) ≡ length (values_in filling.old.values) }
+    requires zeros { values_in filling.old.values ≡ replicate (frame.layout.width * frame.layout.height) (pos 0) }
+    requires equal { filling.old.indices ≡ all_equal frame.layout frame.index }
+    ensures value { Fills (IsNarrow filling.new.values) result (content_in filling.new)
+        (band_read frame.entry.layout (numbers_in frame.entry.parent) frame.entry.index block.now) }
+    ensures len { length (values_in filling.new.values) ≡ frame.entry.layout.width * frame.entry.layout.height }
     ensures narrow { IsNarrow filling.new.values → IsNarrow filling.old.values }
 {
+    let mut decoder = Decoder::new(block);
     'down: for cy in 0..frame.layout.down {
-        match read_codeblocks(decoder, filling, frame, cy) {
+        match read_codeblocks(&mut decoder, filling, frame, cy) {
             Ok(()) => {}
             Err(unread) => return Err(unread),
         }

@@ -104,23 +104,17 @@ pub fn follow_contexts(parent_is_zero: bool, neighbours_are_zero: bool) -> &'sta
     }
 }
 
-/// The first follow context of a coefficient's magnitude, under which it is decided whether the coefficient is 0.
-#[inline(always)]
-pub fn first_context(parent_is_zero: bool, neighbours_are_zero: bool) -> u8
-    ensures value { result ≡ follow_at (follow_of parent_is_zero neighbours_are_zero) 0 }
-    ensures context { result < CONTEXTS }
-{
-    2 * u8::from(!parent_is_zero) + u8::from(!neighbours_are_zero)
-}
-
-/// The same among these neighbours.
+/// The first follow context of a coefficient's magnitude among these neighbours, under which it is decided whether the
+/// coefficient is 0.
 #[inline(always)]
 pub fn first_among(left: i64, above: i64, corner: i64, parent: i64) -> u8
     ensures value { result ≡ follow_at (follow_of (is_zero parent) (is_zero left && (is_zero above && is_zero corner)))
         0 }
     ensures context { result < CONTEXTS }
 {
-    first_context(is_zero_value(parent), are_zeros(left, above, corner))
+    let parent_is_zero = is_zero_value(parent);
+    let neighbours_are_zero = are_zeros(left, above, corner);
+    2 * u8::from(!parent_is_zero) + u8::from(!neighbours_are_zero)
 }
 
 /// The follow contexts of a coefficient's magnitude, by the first of them, which is below 4.
@@ -160,18 +154,10 @@ pub fn sign_context(band: Band, left: i64, above: i64) -> u8
     ensures exact { result ≡ sign_of (sign_neighbour band left above) }
     ensures context { result < CONTEXTS }
 {
-    context_of_sign(neighbour(band, left, above))
-}
-
-/// The context of a sign beside this value.
-#[inline(always)]
-fn context_of_sign(neighbour: i64) -> u8
-    ensures exact { result ≡ sign_of neighbour }
-    ensures context { result < CONTEXTS }
-{
-    if neighbour == 0 {
+    let value = neighbour(band, left, above);
+    if value == 0 {
         SIGN_OF_ZERO
-    } else if neighbour < 0 {
+    } else if value < 0 {
         SIGN_OF_NEGATIVE
     } else {
         SIGN_OF_POSITIVE

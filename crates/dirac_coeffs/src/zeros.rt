@@ -6,7 +6,7 @@ ghost use Rattle.dirac_coeffs.specs.WrittenBand.{IsBandToWrite, marks_in};
 use crate::contexts::is_zero_value;
 use crate::layout::WrittenBand;
 use crate::numbers::{Numbers, number_at};
-use crate::spans::{Codeblock, Span, codeblock_span};
+use crate::spans::{Codeblock, codeblock_span};
 use dirac_common::LARGEST_TABLE_SIDE;
 
 /// Whether `count` values of row `y` from column `from` on are zeros.
@@ -28,25 +28,6 @@ fn is_zero_row(values: Numbers<'_>, width: usize, y: usize, from: usize, count: 
     true
 }
 
-/// Whether the values of these columns of these rows are zeros.
-fn are_zero_rows(values: Numbers<'_>, width: usize, rows: Span, columns: Span) -> bool
-    requires columns { columns.start + columns.length ≤ width }
-    requires width { width ≤ LARGEST_TABLE_SIDE }
-    requires rows { rows.start + rows.length ≤ LARGEST_TABLE_SIDE }
-    requires inside { (rows.start + rows.length) * width ≤ length (numbers_in values) }
-    ensures zeros { result ≡ true → (i j : ℕ) → i < columns.length → j < rows.length
-        → band_value width (numbers_in values.entry) (columns.start + i) (rows.start + j) ≡ pos 0 }
-    ensures others { result ≡ false → ((i j : ℕ) → i < columns.length → j < rows.length
-        → band_value width (numbers_in values.entry) (columns.start + i) (rows.start + j) ≡ pos 0) → ⊥ }
-{
-    'rows: for j in 0..rows.length {
-        if !is_zero_row(values, width, rows.start + j, columns.start, columns.length) {
-            return false;
-        }
-    }
-    true
-}
-
 /// Whether a codeblock has zeros alone, or no values.
 pub fn has_zeros_alone(band: WrittenBand<'_>, codeblock: Codeblock) -> bool
     requires writable { IsBandToWrite band }
@@ -57,5 +38,17 @@ pub fn has_zeros_alone(band: WrittenBand<'_>, codeblock: Codeblock) -> bool
     let layout = band.layout;
     let columns = codeblock_span(layout.width, layout.across, codeblock.column);
     let rows = codeblock_span(layout.height, layout.down, codeblock.row);
-    are_zero_rows(band.values, layout.width as usize, rows, columns)
+    let width = layout.width as usize;
+    'rows: for j in 0..rows.length {
+        if !is_zero_row(
+            band.values,
+            width,
+            rows.start + j,
+            columns.start,
+            columns.length,
+        ) {
+            return false;
+        }
+    }
+    true
 }

@@ -5,12 +5,3 @@ read_as-requires-clause-layout c = c.requires.layout
 
 pub read_as-requires-clause-index : goal.read_as-requires-clause-index
 read_as-requires-clause-index c = c.requires.index
-
-pub read_wide-requires-clause-layout : goal.read_wide-requires-clause-layout
-read_wide-requires-clause-layout c = c.requires.layout
-
-pub read_wide-requires-clause-index : goal.read_wide-requires-clause-index
-read_wide-requires-clause-index c = c.requires.index
-
-pub returns-in-Ok-None : goal.returns-in-Ok-None
-returns-in-Ok-None c = c.read_wide.ensures

@@ -1,4 +1,4 @@
-use Rattle.std.proofs.Common.{◌≡◌, ℕ, pos, ◌-◌, ◌^◌, ◌≤◌, List, ℤ, unsigned_abs, ap, arith, subst, sym, ◌∙◌}
+use Rattle.std.proofs.Common.{◌≡◌, ℕ, pos, ◌-◌, ◌^◌, ◌≤◌, List, ℤ, unsigned_abs, ap, arith, subst, sym, ◌∙◌, refl}
 use Rattle.std.specs.List.{All}
 use Rattle.dirac_common.specs.Table.{Table}
 use Rattle.dirac_coeffs.specs.declared.coefficients.Held.{Held}
@@ -36,3 +36,24 @@ overflow_add-result c =
     let same = sym (ap held_table c.in-Narrow.is) ∙ c.self.view_is in
     let place = held_row c.in-Narrow.rows c.args.self.now c.args.y c.self.inside.largest same is c.requires.inside in
     omega (arith, place)
+
+pub returns-in-Zeros-clause-value : goal.returns-in-Zeros-clause-value
+returns-in-Zeros-clause-value c = tt
+
+pub returns-in-Zeros-clause-len : goal.returns-in-Zeros-clause-len
+returns-in-Zeros-clause-len c = tt
+
+pub returns-in-Zeros-clause-no_list : goal.returns-in-Zeros-clause-no_list
+returns-in-Zeros-clause-no_list c = λ a. refl
+
+pub returns-in-Wide-clause-value : goal.returns-in-Wide-clause-value
+returns-in-Wide-clause-value c = tt
+
+pub returns-in-Wide-clause-len : goal.returns-in-Wide-clause-len
+returns-in-Wide-clause-len c = tt
+
+pub returns-in-Wide-clause-no_list : goal.returns-in-Wide-clause-no_list
+returns-in-Wide-clause-no_list c = λ a. refl
+
+pub returns-in-Narrow-clause-zeros : goal.returns-in-Narrow-clause-zeros
+returns-in-Narrow-clause-zeros c = λ e. absurd cc

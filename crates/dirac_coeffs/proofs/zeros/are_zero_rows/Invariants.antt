@@ -1,7 +1,0 @@
-use Rattle.std.proofs.Common.{◌≡◌, ℕ, ◌+◌, ◌<◌, pos}
-use Rattle.dirac_coeffs.specs.Contexts.{band_value}
-use Rattle.dirac_coeffs.specs.Lent.{numbers_in}
-use Rattle.dirac_coeffs.proofs.zeros.are_zero_rows.Given as goal
-
-abbrev pub invariant-rows : goal.invariant-rows
-invariant-rows l = (k : ℕ) → k < l.j → (i : ℕ) → i < l.columns.length → band_value l.width (numbers_in l.values) (l.columns.start + i) (l.rows.start + k) ≡ pos 0
