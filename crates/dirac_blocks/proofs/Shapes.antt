@@ -2,13 +2,15 @@
 use Rattle.std.proofs.Common.{◌≡◌, ℕ, ◌+◌, ◌*◌, ◌%◌, ◌^◌, ◌<◌, ◌≤◌, [], ◌∷◌, Result, Ok, Err, refl, sym, ap, ap₂, ◌∙◌, arith, subst, List, slice_index_or}
 use Rattle.std.proofs.lemmas.Nat.{mul-le}
 use Rattle.dirac_common.specs.declared.faults.Cause.{Cause}
-use Rattle.dirac_arith.specs.Coded.{read_coded, repeated}
+use Rattle.dirac_arith.specs.Coded.{done, read_coded, repeated}
+use Rattle.dirac_arith.proofs.CodedValues.{then_is_read}
 use Rattle.dirac_arith.specs.Deciding.{number_read}
 use Rattle.dirac_arith.specs.Reading.{Reading}
 use Rattle.dirac_blocks.specs.declared.parts.ListKind.{ListKind}
 use Rattle.dirac_blocks.specs.Decisions.{UnitPart, predicted_split, superblock_part, unit_rows}
-use Rattle.dirac_blocks.specs.Grammar.{TableStep, split_step, superblock_step, unit_rows_step, with_split}
+use Rattle.dirac_blocks.specs.Grammar.{TableStep, split_step, superblock_step, unit_coded, unit_read_step, unit_rows_step, with_split, with_unit}
 use Rattle.dirac_blocks.specs.Reached.{IsFirstOfUnit, SameBlocks, SameShape, SameSize}
+use Rattle.dirac_block_table.specs.declared.block.Block.{Block}
 use Rattle.dirac_block_table.specs.Tables.{BlockTable, split_at, unit_size}
 use Rattle.dirac_block_table.proofs.Units.{of_splits}
 
@@ -119,3 +121,17 @@ split_refused t sx sy old e refused = rw refused refl
 
 pub split_written : (t u : BlockTable) (sx sy split : ℕ) → u ≡ with_split t sx sy split → SameBlocks t u
 split_written t u sx sy split is = subst (SameBlocks t) (sym is) (record { across = refl; down = refl; refs = refl; blocks = refl })
+
+-- a unit that is read, and written into the table
+pub unit_found : (part : ListKind) (t u : BlockTable) (size i j : ℕ) (b : Block) (old new : Reading) → read_coded (unit_coded part t i j) old ≡ Ok (b, new) → u ≡ with_unit t size i j b
+    → read_coded (unit_read_step part size i j t) old ≡ Ok (u, new)
+unfolding unit_read_step
+unit_found part t u size i j b old new found is =
+    then_is_read (unit_coded part t i j) (λ x. done (with_unit t size i j x)) old ∙ rw found (ap (λ (v : BlockTable). let x : Result (BlockTable × Reading) Cause = Ok (v, new) in x) (sym is))
+
+pub unit_refused : (part : ListKind) (t : BlockTable) (size i j : ℕ) (old : Reading) (e : Cause) → read_coded (unit_coded part t i j) old ≡ Err e → read_coded (unit_read_step part size i j t) old ≡ Err e
+unfolding unit_read_step
+unit_refused part t size i j old e refused = then_is_read (unit_coded part t i j) (λ x. done (with_unit t size i j x)) old ∙ rw refused refl
+
+pub unit_written : (t u : BlockTable) (size i j : ℕ) (b : Block) → u ≡ with_unit t size i j b → SameShape t u
+unit_written t u size i j b is = subst (SameShape t) (sym is) (record { across = refl; down = refl; refs = refl; splits = refl })

@@ -1,6 +1,6 @@
 ghost use Rattle.std.specs.Prelude.{◌≡◌, ℕ, ◌+◌, ◌*◌, ◌^◌, ◌<◌, ◌≤◌};
 ghost use Rattle.dirac_arith.specs.Coded.{read_coded};
-ghost use Rattle.dirac_blocks.specs.Grammar.{superblock_step, unit_row_step, unit_read_step};
+ghost use Rattle.dirac_blocks.specs.Grammar.{superblock_step, unit_row_step};
 ghost use Rattle.dirac_blocks.specs.Reached.{IsFirstOfUnit, StepMoves, SameShape};
 
 use crate::parts::ListKind;
@@ -9,34 +9,7 @@ use dirac_arith::Decoder;
 use dirac_block_table::{BlockData, unit_blocks, units_across};
 use dirac_common::{Cause, MOST_SUPERBLOCKS};
 
-/// Reads what this list tells of a unit of `size` by `size` blocks, from block `i` of row `j` on.
-fn read_unit(
-    decoder: &mut Decoder<'_>,
-    table: &mut BlockData,
-    part: ListKind,
-    size: u32,
-    i: u32,
-    j: u32,
-) -> Result<(), Cause>
-    requires unit { IsFirstOfUnit table.old size i j }
-    requires column { i < 4 * table.old.across }
-    requires row { j < 4 * table.old.down }
-    requires no_overflow { decoder.old.at.doublings < 2 ^ 60 }
-    ensures value { StepMoves result table.new decoder.new
-        (read_coded (unit_read_step part size i j table.old) decoder.old) }
-    ensures shape { SameShape table.old table.new }
-    ensures few_doublings { decoder.new.at.doublings ≤ decoder.old.at.doublings + 702 }
-{
-    match read_unit_block(decoder, table, part, i, j) {
-        Ok(block) => {
-            table.set_unit(size, i, j, block);
-            Ok(())
-        }
-        Err(cause) => Err(cause),
-    }
-}
-
-/// Reads `count` units of a row, from block `i` of row `j` on.
+/// Reads what this list tells of `count` units of `size` by `size` blocks of a row, from block `i` of row `j` on.
 fn read_unit_row(
     decoder: &mut Decoder<'_>,
     table: &mut BlockData,
@@ -59,8 +32,9 @@ fn read_unit_row(
     ensures few_doublings { decoder.new.at.doublings ≤ decoder.old.at.doublings + 702 * count }
 {
     'units: for n in 0..count {
-        match read_unit(decoder, table, part, size, i + n * size, j) {
-            Ok(()) => {}
+        let column = i + n * size;
+        match read_unit_block(decoder, table, part, column, j) {
+            Ok(block) => table.set_unit(size, column, j, block),
             Err(cause) => return Err(cause),
         }
     }

@@ -1,4 +1,4 @@
-use Rattle.std.proofs.Common.{arith}
+use Rattle.std.proofs.Common.{arith, sym, ◌∙◌}
 use Rattle.dirac_blocks.proofs.list_reader.read_cell.Goals as goal
 
 pub read_split-requires-clause-grey : goal.read_split-requires-clause-grey
@@ -28,3 +28,24 @@ returns-in-Some-clause-size c =
 
 pub returns-in-Some-clause-few_doublings : goal.returns-in-Some-clause-few_doublings
 returns-in-Some-clause-few_doublings c = c.read_superblock.ensures.few_doublings
+
+pub read_split-requires-clause-column : goal.read_split-requires-clause-column
+read_split-requires-clause-column c = c.requires.column
+
+pub read_split-requires-clause-row : goal.read_split-requires-clause-row
+read_split-requires-clause-row c = c.requires.row
+
+pub read_split-requires-clause-no_overflow : goal.read_split-requires-clause-no_overflow
+read_split-requires-clause-no_overflow c = omega (arith, c.requires.no_overflow)
+
+pub read_superblock-requires-clause-column : goal.read_superblock-requires-clause-column
+read_superblock-requires-clause-column c = c.requires.column
+
+pub read_superblock-requires-clause-row : goal.read_superblock-requires-clause-row
+read_superblock-requires-clause-row c = c.requires.row
+
+pub read_superblock-requires-clause-no_overflow : goal.read_superblock-requires-clause-no_overflow
+read_superblock-requires-clause-no_overflow c = c.requires.no_overflow
+
+pub returns-in-Some-clause-blocks : goal.returns-in-Some-clause-blocks
+returns-in-Some-clause-blocks c = λ e. let no = sym c.in-Some.is ∙ e in absurd cc

@@ -61,3 +61,6 @@ returns-clause-kept c = c.lists.invariant.kept
 
 pub returns-clause-place_inside : goal.returns-clause-place_inside
 returns-clause-place_inside c = tt
+
+pub bounds-n-n : goal.bounds-n-n
+bounds-n-n c = omega arith

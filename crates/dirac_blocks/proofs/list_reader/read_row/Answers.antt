@@ -1,8 +1,9 @@
-use Rattle.std.proofs.Common.{arith, refl, subst, sym, ◌∙◌}
+use Rattle.std.proofs.Common.{arith, refl, subst, sym, ◌∙◌, ◌≡◌, ℕ, Ok}
 use Rattle.dirac_arith.proofs.CodedValues.{repeated_none, repeated_next, repeated_stops}
 use Rattle.dirac_blocks.specs.Grammar.{list_step}
 use Rattle.dirac_blocks.specs.Reached.{AllGrey}
 use Rattle.dirac_blocks.proofs.Shapes.{size_refl, size_join}
+use Rattle.dirac_arith.specs.Coded.{read_coded, repeated}
 use Rattle.dirac_blocks.proofs.list_reader.read_row.Goals as goal
 
 pub superblocks-init : goal.superblocks-init
@@ -49,3 +50,20 @@ returns-in-Err-clause-size c = size_join c.args.table.now c.superblocks.table c.
 
 pub returns-in-Err-clause-blocks : goal.returns-in-Err-clause-blocks
 returns-in-Err-clause-blocks c = λ e. c.read_cell.ensures.blocks e ∙ c.superblocks.invariant.blocks e
+
+pub returns-clause-value : goal.returns-clause-value
+returns-clause-value c =
+    let all : c.superblocks.n ≡ c.args.count = omega arith in
+    subst (λ (n : ℕ). read_coded (repeated (list_step c.args.list c.args.sy) n c.args.table.now) c.args.decoder.now ≡ Ok (c.superblocks.table, c.superblocks.decoder)) all c.superblocks.invariant.value
+
+pub returns-clause-size : goal.returns-clause-size
+returns-clause-size c = c.superblocks.invariant.size
+
+pub returns-clause-blocks : goal.returns-clause-blocks
+returns-clause-blocks c = c.superblocks.invariant.blocks
+
+pub returns-clause-few_doublings : goal.returns-clause-few_doublings
+returns-clause-few_doublings c = omega (arith, c.superblocks.invariant.few_doublings)
+
+pub returns-in-Err-clause-few_doublings : goal.returns-in-Err-clause-few_doublings
+returns-in-Err-clause-few_doublings c = omega (arith, c.superblocks.invariant.few_doublings, c.read_cell.ensures.few_doublings)

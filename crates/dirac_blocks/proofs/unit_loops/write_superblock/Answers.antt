@@ -77,3 +77,9 @@ units_across-across-requires c = c.split-split.ensures.at_most_2
 
 pub returns-in-Err : goal.returns-in-Err
 returns-in-Err c = tt
+
+pub overflow_cast-size : goal.overflow_cast-size
+overflow_cast-size c = omega (arith, c.unit_blocks-size.ensures.at_most_4)
+
+pub overflow_cast-across : goal.overflow_cast-across
+overflow_cast-across c = omega (arith, c.units_across-across.ensures.at_most_4)

@@ -1,9 +1,11 @@
-use Rattle.std.proofs.Common.{◌+◌, ◌*◌, refl, arith}
+use Rattle.std.proofs.Common.{◌+◌, ◌*◌, refl, arith, ◌≤◌, ◌≡◌, ℕ, subst}
 use Rattle.dirac_arith.proofs.Spellings.{narrowed_more}
 use Rattle.dirac_blocks.specs.Parts.{part_at}
 use Rattle.dirac_blocks.specs.Decisions.{unit_row}
 use Rattle.dirac_blocks.proofs.Narrowing.{unit_row_next}
 use Rattle.dirac_blocks.proofs.Shapes.{unit_within}
+use Rattle.std.proofs.lemmas.Nat.{mul-le}
+use Rattle.dirac_arith.specs.Interval.{narrowed_by}
 use Rattle.dirac_blocks.proofs.unit_loops.write_unit_row.Goals as goal
 
 pub units-init : goal.units-init
@@ -29,3 +31,18 @@ write_unit-requires-clause-row c = c.requires.row
 
 pub returns-in-Err : goal.returns-in-Err
 returns-in-Err c = tt
+
+pub overflow_mul-n : goal.overflow_mul-n
+overflow_mul-n c =
+    let few : c.units.n * c.args.size ≤ c.args.count * c.args.size = mul-le c.units.n c.args.size c.args.count c.args.size (omega arith) (omega arith) in
+    omega (arith, c.requires.column, c.requires.at_most_1024)
+
+pub overflow_add-i : goal.overflow_add-i
+overflow_add-i c =
+    let few : c.units.n * c.args.size ≤ c.args.count * c.args.size = mul-le c.units.n c.args.size c.args.count c.args.size (omega arith) (omega arith) in
+    omega (arith, c.requires.column, c.requires.at_most_1024)
+
+pub returns : goal.returns
+returns c =
+    let all : c.units.n ≡ c.args.count = omega arith in
+    subst (λ (n : ℕ). c.units.encoder ≡ narrowed_by c.args.encoder.now (unit_row (part_at c.args.part c.args.table.now) c.args.size c.args.i c.args.j n)) all c.units.invariant

@@ -105,3 +105,9 @@ unit_blocks-size-requires c = c.split-split.ensures.at_most_2
 
 pub units_across-across-requires : goal.units_across-across-requires
 units_across-across-requires c = c.split-split.ensures.at_most_2
+
+pub overflow_cast-size : goal.overflow_cast-size
+overflow_cast-size c = omega (arith, c.unit_blocks-size.ensures.at_most_4)
+
+pub overflow_cast-across : goal.overflow_cast-across
+overflow_cast-across c = omega (arith, c.units_across-across.ensures.at_most_4)
