@@ -133,6 +133,19 @@ list_absent (suc (suc (suc (suc (suc (suc (suc zero))))))) t c l not = absurd (t
 list_absent (suc (suc (suc (suc (suc (suc (suc (suc zero)))))))) t c l not = absurd (true≢false not)
 list_absent (suc (suc (suc (suc (suc (suc (suc (suc (suc n))))))))) t c l not = absurd (omega arith)
 
+-- the list without a part comes first
+pub splits_first : (n : ℕ) → n < 9 → list_at n ≡ None → n ≡ 0
+splits_first zero l none = refl
+splits_first (suc zero) l none = absurd cc
+splits_first (suc (suc zero)) l none = absurd cc
+splits_first (suc (suc (suc zero))) l none = absurd cc
+splits_first (suc (suc (suc (suc zero)))) l none = absurd cc
+splits_first (suc (suc (suc (suc (suc zero))))) l none = absurd cc
+splits_first (suc (suc (suc (suc (suc (suc zero)))))) l none = absurd cc
+splits_first (suc (suc (suc (suc (suc (suc (suc zero))))))) l none = absurd cc
+splits_first (suc (suc (suc (suc (suc (suc (suc (suc zero)))))))) l none = absurd cc
+splits_first (suc (suc (suc (suc (suc (suc (suc (suc (suc n))))))))) l none = absurd (omega arith)
+
 -- the first n of a table's lists, where they are there
 abbrev pub lists_before : BlockTable → ℕ → List (List Decision)
 lists_before t zero = []

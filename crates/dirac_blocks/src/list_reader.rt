@@ -4,7 +4,7 @@ ghost use Rattle.dirac_bits.specs.Syntax.{read};
 ghost use Rattle.dirac_blocks.specs.Grammar.{list_over, list_step, lists_of, step_of};
 ghost use Rattle.dirac_blocks.specs.Reached.{AllGrey, BlockIsRead, ListIsRead, SameSize, StepMoves};
 
-use crate::parts::{LISTS, ListKind, is_there};
+use crate::parts::{LISTS, ListKind, is_there, nth_list};
 use crate::split_reader::read_split;
 use crate::unit_reading::read_superblock;
 use dirac_arith::Decoder;
@@ -118,7 +118,7 @@ pub fn read_lists(r: &mut BitReader<'_>, table: &mut BlockData) -> Result<(), Re
 {
     let refs = table.refs();
     'lists: for n in 0..LISTS.len() {
-        let list = LISTS[n];
+        let list = nth_list(n);
         if is_there(list, refs) {
             match read_list(r, table, list) {
                 Ok(()) => {}

@@ -1,4 +1,4 @@
-ghost use Rattle.std.specs.Prelude.{◌≡◌};
+ghost use Rattle.std.specs.Prelude.{◌≡◌, ◌<◌, None, slice_index_or};
 ghost use Rattle.dirac_vectors.specs.Neighbours.{IsShort};
 ghost use Rattle.dirac_vectors.specs.Predictions.{IsShortVector};
 ghost use Rattle.dirac_blocks.specs.Parts.{component_along, is_there};
@@ -34,6 +34,14 @@ pub const LISTS: [Option<ListKind>; 9] = [
     Some(ListKind::Dc(Component::U)),
     Some(ListKind::Dc(Component::V)),
 ];
+
+/// List `n` of a table. The loops over lists call it, so that the table of lists is proved of once.
+pub fn nth_list(n: usize) -> Option<ListKind>
+    requires { n < 9 }
+    ensures { result ≡ slice_index_or LISTS n None }
+{
+    LISTS[n]
+}
 
 /// Whether a list is there in a table of that many references.
 pub fn is_there(list: Option<ListKind>, refs: u8) -> bool

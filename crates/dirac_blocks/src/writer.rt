@@ -8,7 +8,7 @@ ghost use Rattle.dirac_blocks.specs.Parts.{list_there};
 ghost use Rattle.dirac_blocks.specs.Written.{ListsHaveShortBlocks, with_block, with_lists};
 
 use crate::list_writer::list_block;
-use crate::parts::{LISTS, ListKind, is_there};
+use crate::parts::{LISTS, ListKind, is_there, nth_list};
 use dirac_bits::BitWriter;
 use dirac_block_table::BlockData;
 use dirac_common::NoMemory;
@@ -68,7 +68,7 @@ pub fn write_blocks(alloc: Global, w: &mut BitWriter, blocks: &BlockData) -> Res
         blocks.now w.old w.new) }
 {
     'lists: for n in 0..LISTS.len() {
-        match write_list(alloc, w, blocks, LISTS[n]) {
+        match write_list(alloc, w, blocks, nth_list(n)) {
             Ok(()) => {}
             Err(e) => return Err(e),
         }

@@ -1,6 +1,8 @@
-use Rattle.std.proofs.Common.{◌≡◌, ℕ, Bool, List, refl, sym, ap, subst, ◌∙◌, arith}
+use Rattle.std.proofs.Common.{◌≡◌, ℕ, Bool, List, refl, sym, ap, subst, ◌∙◌, arith, Option}
 use Rattle.dirac_arith.specs.Interval.{Decision}
+use Rattle.dirac_bits.specs.Fronts.{HoldsFront}
 use Rattle.dirac_bits.specs.Spelling.{SpelledBehind}
+use Rattle.dirac_blocks.specs.declared.parts.ListKind.{ListKind}
 use Rattle.dirac_blocks.specs.Decisions.{block_decisions, least_numbers}
 use Rattle.dirac_blocks.specs.Grammar.{blocks}
 use Rattle.dirac_blocks.specs.Parts.{list_there}
@@ -18,12 +20,14 @@ lists-preserved c =
     let t = c.args.blocks.now in
     let n = c.lists.n in
     let next = list_there (list_at n) t in
+    let new = c.write_list.new.w in
+    let exact = subst (λ (l : Option ListKind). new ≡ with_lists (list_there l t) c.lists.w) c.nth_list.ensures c.in-Ok.ensures.exact in
+    let short = subst (λ (l : Option ListKind). ListsHaveShortBlocks (list_there l t)) c.nth_list.ensures c.in-Ok.ensures.lists_have_short_blocks in
     record {
       exact =
-          c.in-Ok.ensures.exact ∙ ap (λ (l : List Bool). with_lists next l) c.lists.invariant.exact ∙ sym (lists_append (lists_before t n) next c.args.w.now)
+          exact ∙ ap (λ (l : List Bool). with_lists next l) c.lists.invariant.exact ∙ sym (lists_append (lists_before t n) next c.args.w.now)
           ∙ ap (λ (ds : List (List Decision)). with_lists ds c.args.w.now) (sym (lists_next t n));
-      lists_have_short_blocks =
-          subst ListsHaveShortBlocks (sym (lists_next t n)) (short_append (lists_before t n) next c.lists.invariant.lists_have_short_blocks c.in-Ok.ensures.lists_have_short_blocks);
+      lists_have_short_blocks = subst ListsHaveShortBlocks (sym (lists_next t n)) (short_append (lists_before t n) next c.lists.invariant.lists_have_short_blocks short);
     }
 
 pub returns-clause-exact : goal.returns-clause-exact
@@ -44,4 +48,10 @@ returns-clause-spelled c =
     subst (λ (l : List Bool). SpelledBehind (blocks t.across t.down t.refs) t w l) (sym exact) (table_spelled t w c.refs.ensures.lawful c.requires short)
 
 pub returns-in-Err-clause-front : goal.returns-in-Err-clause-front
-returns-in-Err-clause-front c = broke_off c.args.blocks.now c.lists.n (omega arith) c.lists.invariant.exact c.in-Err.ensures.front
+returns-in-Err-clause-front c =
+    let t = c.args.blocks.now in
+    broke_off t c.lists.n (omega arith) c.lists.invariant.exact
+    (subst (λ (l : Option ListKind). HoldsFront c.lists.w c.write_list.new.w (with_lists (list_there l t) c.lists.w)) c.nth_list.ensures c.in-Err.ensures.front)
+
+pub nth_list-requires : goal.nth_list-requires
+nth_list-requires c = omega arith
