@@ -34,9 +34,10 @@ fn read_wide_value(
     ensures few_doublings { decoder.new.at.doublings ≤ decoder.old.at.doublings + 702 }
 {
     let width = layout.width as usize;
-    let left = contexts::left_value(Numbers::Wide(values), width, x, y);
-    let above = contexts::above_value(Numbers::Wide(values), width, x, y);
-    let corner = contexts::corner_value(Numbers::Wide(values), width, x, y);
+    let lent = Numbers::Wide(values);
+    let left = contexts::left_value(lent, width, x, y);
+    let above = contexts::above_value(lent, width, x, y);
+    let corner = contexts::corner_value(lent, width, x, y);
     let parent = contexts::parent_value(parent, width, x, y);
     let follow = contexts::follow_among(left, above, corner, parent);
     let sign = contexts::sign_context(layout.band, left, above);
