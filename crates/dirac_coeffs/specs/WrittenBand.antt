@@ -1,8 +1,9 @@
 -- A subband that is written: what holds of it, and the decisions of its parts.
-use Rattle.std.specs.Prelude.{◌≡◌, ℕ, ◌*◌, List, ◌++◌, length}
+use Rattle.std.specs.Prelude.{◌≡◌, ℕ, ◌*◌, ◌<◌, List, ◌++◌, length}
 use Rattle.dirac_arith.specs.Interval.{Decision}
 use Rattle.dirac_bands.specs.Geometry.{edge_of}
 use Rattle.dirac_coeffs.specs.declared.layout.WrittenBand.{WrittenBand}
+use Rattle.dirac_coeffs.specs.declared.spans.Codeblock.{Codeblock}
 use Rattle.dirac_coeffs.specs.Carried.{AreSmall}
 use Rattle.dirac_coeffs.specs.Decisions.{Frame, Marks, bands_part, block_part, blocks_part, frame_of, rows_part}
 use Rattle.dirac_coeffs.specs.Indices.{offset_part}
@@ -16,6 +17,12 @@ pub record IsBandToWrite (b : WrittenBand) : Type 0 where
   pub len : length (numbers_in b.values) ≡ b.layout.width * b.layout.height
   pub magnitudes_bounded : AreSmall (numbers_in b.values)
   pub count : length b.indices.now ≡ b.layout.across * b.layout.down
+
+-- a codeblock of such a band
+pub record IsBlockToWrite (b : WrittenBand) (codeblock : Codeblock) : Type 0 where
+  pub writable : IsBandToWrite b
+  pub row : codeblock.row < b.layout.down
+  pub column : codeblock.column < b.layout.across
 
 -- what the contexts of its values are read off
 abbrev pub frame_in : WrittenBand → Frame

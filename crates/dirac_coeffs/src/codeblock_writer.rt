@@ -1,6 +1,6 @@
 ghost use Rattle.std.specs.Prelude.{◌≡◌, ◌<◌, OnOk};
 ghost use Rattle.dirac_arith.specs.Interval.{narrowed_by};
-ghost use Rattle.dirac_coeffs.specs.WrittenBand.{IsBandToWrite, blocks_of_row, unskipped_block};
+ghost use Rattle.dirac_coeffs.specs.WrittenBand.{IsBandToWrite, IsBlockToWrite, blocks_of_row, unskipped_block};
 ghost use Rattle.dirac_coeffs.specs.WrittenBand.{whole_block};
 
 use crate::layout::WrittenBand;
@@ -17,9 +17,7 @@ fn write_unskipped(
     band: WrittenBand<'_>,
     codeblock: Codeblock,
 ) -> Result<(), NoMemory>
-    requires writable { IsBandToWrite band }
-    requires row { codeblock.row < band.layout.down }
-    requires column { codeblock.column < band.layout.across }
+    requires { IsBlockToWrite band codeblock }
     ensures { OnOk result (encoder.new ≡ narrowed_by encoder.old
         (unskipped_block band.entry codeblock.row codeblock.column)) }
 {
@@ -35,9 +33,7 @@ fn write_codeblock(
     band: WrittenBand<'_>,
     codeblock: Codeblock,
 ) -> Result<(), NoMemory>
-    requires writable { IsBandToWrite band }
-    requires row { codeblock.row < band.layout.down }
-    requires column { codeblock.column < band.layout.across }
+    requires { IsBlockToWrite band codeblock }
     ensures { OnOk result (encoder.new ≡ narrowed_by encoder.old
         (whole_block band.entry codeblock.row codeblock.column)) }
 {

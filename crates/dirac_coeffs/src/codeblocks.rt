@@ -4,7 +4,7 @@ ghost use Rattle.dirac_coeffs.specs.Answers.{Fills, Flags, Goes};
 ghost use Rattle.dirac_coeffs.specs.BandRead.{block_step, blocks_step};
 ghost use Rattle.dirac_coeffs.specs.BandRead.{band_read};
 ghost use Rattle.dirac_coeffs.specs.Indices.{all_equal};
-ghost use Rattle.dirac_coeffs.specs.Layouts.{IsBandLayout, codeblock_extent};
+ghost use Rattle.dirac_coeffs.specs.Layouts.{IsBandLayout, codeblock_extent, IsCodeblockOf};
 ghost use Rattle.dirac_coeffs.specs.Lent.{IsNarrow, content_in, numbers_in, values_in};
 
 use crate::indices::Indices;
@@ -51,9 +51,7 @@ fn read_codeblock(
     frame: BandFrame<'_>,
     codeblock: Codeblock,
 ) -> Result<(), Unread>
-    requires layout { IsBandLayout frame.layout }
-    requires row { codeblock.row < frame.layout.down }
-    requires column { codeblock.column < frame.layout.across }
+    requires block { IsCodeblockOf frame.layout codeblock }
     requires len { length (values_in filling.old.values) ≡ frame.layout.width * frame.layout.height }
     requires count { length filling.old.indices ≡ frame.layout.across * frame.layout.down }
     requires no_overflow { decoder.old.at.doublings < 2 ^ 57 }

@@ -1,7 +1,7 @@
 ghost use Rattle.std.specs.Prelude.{◌≡◌, pos, ◌-◌, ◌^◌, ◌<◌, ◌-ℤ◌, OnOk, unsigned_abs};
 ghost use Rattle.dirac_arith.specs.Interval.{narrowed_by};
 ghost use Rattle.dirac_coeffs.specs.Indices.{offset_part};
-ghost use Rattle.dirac_coeffs.specs.WrittenBand.{IsBandToWrite, marks_in};
+ghost use Rattle.dirac_coeffs.specs.WrittenBand.{IsBlockToWrite, marks_in};
 
 use crate::indices::{codeblock_place, former_index};
 use crate::layout::WrittenBand;
@@ -23,9 +23,7 @@ pub fn write_offset(
     band: WrittenBand<'_>,
     codeblock: Codeblock,
 ) -> Result<(), NoMemory>
-    requires writable { IsBandToWrite band }
-    requires row { codeblock.row < band.layout.down }
-    requires column { codeblock.column < band.layout.across }
+    requires { IsBlockToWrite band codeblock }
     ensures { OnOk result (encoder.new ≡ narrowed_by encoder.old (offset_part band.entry.layout.mode
         (marks_in band.entry codeblock.row codeblock.column).offset)) }
 {

@@ -4,7 +4,7 @@ ghost use Rattle.dirac_arith.specs.Deciding.{GivesReading};
 ghost use Rattle.dirac_coeffs.specs.Answers.{Moves};
 ghost use Rattle.dirac_coeffs.specs.BandRead.{offset_step};
 ghost use Rattle.dirac_coeffs.specs.Indices as spec;
-ghost use Rattle.dirac_coeffs.specs.Layouts.{IsBandLayout};
+ghost use Rattle.dirac_coeffs.specs.Layouts.{IsCodeblockOf};
 
 use crate::indices::{Indices, codeblock_place, former_index};
 use crate::layout::BandLayout;
@@ -63,9 +63,7 @@ pub fn read_offset(
     index: u8,
     codeblock: Codeblock,
 ) -> Result<(), Cause>
-    requires layout { IsBandLayout layout }
-    requires row { codeblock.row < layout.down }
-    requires column { codeblock.column < layout.across }
+    requires block { IsCodeblockOf layout codeblock }
     requires count { length indices.old ≡ layout.across * layout.down }
     requires no_overflow { decoder.old.at.doublings < 2 ^ 61 }
     ensures value { Moves result indices.new decoder.new (read_coded (offset_step layout.mode index
@@ -89,9 +87,7 @@ pub fn read_offset(
 
 /// Notes that a skipped codeblock has the index of the one before it, which in mode 0 it has already.
 pub fn note_former(indices: &mut Indices, layout: BandLayout, index: u8, codeblock: Codeblock)
-    requires layout { IsBandLayout layout }
-    requires row { codeblock.row < layout.down }
-    requires column { codeblock.column < layout.across }
+    requires block { IsCodeblockOf layout codeblock }
     requires count { length indices.old ≡ layout.across * layout.down }
     ensures value { indices.new ≡ spec.with_former layout.mode index
         (spec.place_of layout codeblock.row codeblock.column) indices.old }

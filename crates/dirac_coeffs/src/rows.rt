@@ -3,7 +3,7 @@ ghost use Rattle.dirac_arith.specs.Coded.{read_coded};
 ghost use Rattle.dirac_coeffs.specs.Answers.{Goes};
 ghost use Rattle.dirac_coeffs.specs.BandRead.{filled_step, row_step};
 ghost use Rattle.dirac_coeffs.specs.Decisions.{frame_of};
-ghost use Rattle.dirac_coeffs.specs.Layouts.{IsBandLayout, codeblock_extent};
+ghost use Rattle.dirac_coeffs.specs.Layouts.{codeblock_extent, IsCodeblockOf};
 ghost use Rattle.dirac_coeffs.specs.Lent.{IsNarrow, numbers_in, values_in};
 
 use crate::layout::BandLayout;
@@ -82,9 +82,7 @@ pub fn read_block_values(
     parent: Numbers<'_>,
     codeblock: Codeblock,
 ) -> Result<(), Unread>
-    requires layout { IsBandLayout layout }
-    requires row { codeblock.row < layout.down }
-    requires column { codeblock.column < layout.across }
+    requires block { IsCodeblockOf layout codeblock }
     requires len { length (values_in values.old) ≡ layout.width * layout.height }
     requires no_overflow { decoder.old.at.doublings < 2 ^ 58 }
     ensures value { Goes (IsNarrow values.new) result (values_in values.new) decoder.new (read_coded (filled_step layout

@@ -4,7 +4,7 @@ ghost use Rattle.dirac_coeffs.specs.Carried.{AreSmall};
 ghost use Rattle.dirac_coeffs.specs.Contexts.{value_in_corner, value_left_of, value_spelling};
 ghost use Rattle.dirac_coeffs.specs.Decisions.{frame_of, value_part, row_part};
 ghost use Rattle.dirac_coeffs.specs.Lent.{numbers_in};
-ghost use Rattle.dirac_coeffs.specs.WrittenBand.{IsBandToWrite, frame_in, values_of_block};
+ghost use Rattle.dirac_coeffs.specs.WrittenBand.{IsBandToWrite, IsBlockToWrite, frame_in, values_of_block};
 
 use crate::contexts;
 use crate::layout::{BandLayout, WrittenBand};
@@ -194,9 +194,7 @@ pub fn write_block_values(
     band: WrittenBand<'_>,
     codeblock: Codeblock,
 ) -> Result<(), NoMemory>
-    requires writable { IsBandToWrite band }
-    requires row { codeblock.row < band.layout.down }
-    requires column { codeblock.column < band.layout.across }
+    requires { IsBlockToWrite band codeblock }
     ensures { OnOk result (encoder.new ≡ narrowed_by encoder.old
         (values_of_block band.entry codeblock.row codeblock.column)) }
 {

@@ -1,7 +1,7 @@
 ghost use Rattle.std.specs.Prelude.{◌≡◌, ℕ, ◌+◌, ◌*◌, ◌<◌, ◌≤◌, pos, true, false, length};
 ghost use Rattle.dirac_coeffs.specs.Contexts.{band_value};
 ghost use Rattle.dirac_coeffs.specs.Lent.{numbers_in};
-ghost use Rattle.dirac_coeffs.specs.WrittenBand.{IsBandToWrite, marks_in};
+ghost use Rattle.dirac_coeffs.specs.WrittenBand.{IsBlockToWrite, marks_in};
 
 use crate::contexts::is_zero_value;
 use crate::layout::WrittenBand;
@@ -30,9 +30,7 @@ fn is_zero_row(values: Numbers<'_>, width: usize, y: usize, from: usize, count: 
 
 /// Whether a codeblock has zeros alone, or no values.
 pub fn has_zeros_alone(band: WrittenBand<'_>, codeblock: Codeblock) -> bool
-    requires writable { IsBandToWrite band }
-    requires row { codeblock.row < band.layout.down }
-    requires column { codeblock.column < band.layout.across }
+    requires { IsBlockToWrite band codeblock }
     ensures { result ≡ (marks_in band.entry codeblock.row codeblock.column).skipped }
 {
     let layout = band.layout;

@@ -18,16 +18,10 @@ across-preserved c =
     let n = c.across.cx in
     narrowed_more _ _ _ (blocks_of_row band cy n) (whole_block band cy n) _ c.across.invariant c.in_ok-write_codeblock.ensures (blocks_next band.layout (numbers_in band.parent) (numbers_in band.values) (marks_in band cy) cy n)
 
-pub write_codeblock-requires-clause-writable : goal.write_codeblock-requires-clause-writable
-write_codeblock-requires-clause-writable c = c.requires.writable
-
-pub write_codeblock-requires-clause-row : goal.write_codeblock-requires-clause-row
-write_codeblock-requires-clause-row c = c.requires.row
-
-pub write_codeblock-requires-clause-column : goal.write_codeblock-requires-clause-column
-write_codeblock-requires-clause-column c = omega arith
-
 pub returns : goal.returns
 returns c =
     let all : c.across.cx ≡ c.args.band.layout.across = omega (arith, c.across.auto.cx-end) in
     subst (λ (n : ℕ). c.across.encoder ≡ narrowed_by c.args.encoder.now (blocks_of_row c.args.band c.args.cy n)) all c.across.invariant
+
+pub write_codeblock-requires : goal.write_codeblock-requires
+write_codeblock-requires c = record { writable = c.requires.writable; row = c.requires.row; column = omega arith }

@@ -12,20 +12,8 @@ returns-in-Ok c =
     let es = values_of_block band c.args.codeblock.row c.args.codeblock.column in
     on_ok_weaker c.write_block_values.result (λ e. narrowed_more _ _ _ ds es (ds ++ es) c.in-Ok.ensures e refl) c.write_block_values.ensures
 
-pub write_offset-requires-clause-writable : goal.write_offset-requires-clause-writable
-write_offset-requires-clause-writable c = c.requires.writable
+pub write_offset-requires : goal.write_offset-requires
+write_offset-requires c = c.requires
 
-pub write_offset-requires-clause-row : goal.write_offset-requires-clause-row
-write_offset-requires-clause-row c = c.requires.row
-
-pub write_offset-requires-clause-column : goal.write_offset-requires-clause-column
-write_offset-requires-clause-column c = c.requires.column
-
-pub write_block_values-requires-clause-writable : goal.write_block_values-requires-clause-writable
-write_block_values-requires-clause-writable c = c.requires.writable
-
-pub write_block_values-requires-clause-row : goal.write_block_values-requires-clause-row
-write_block_values-requires-clause-row c = c.requires.row
-
-pub write_block_values-requires-clause-column : goal.write_block_values-requires-clause-column
-write_block_values-requires-clause-column c = c.requires.column
+pub write_block_values-requires : goal.write_block_values-requires
+write_block_values-requires c = c.requires

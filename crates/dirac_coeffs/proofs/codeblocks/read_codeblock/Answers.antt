@@ -86,29 +86,11 @@ returns-in-Err-clause-count c = refl
 pub returns-in-Err-clause-few_doublings : goal.returns-in-Err-clause-few_doublings
 returns-in-Err-clause-few_doublings c = omega (arith, c.read_flag.ensures.few_doublings)
 
-pub read_offset-requires-clause-layout : goal.read_offset-requires-clause-layout
-read_offset-requires-clause-layout c = c.requires.layout
-
-pub read_offset-requires-clause-row : goal.read_offset-requires-clause-row
-read_offset-requires-clause-row c = c.requires.row
-
-pub read_offset-requires-clause-column : goal.read_offset-requires-clause-column
-read_offset-requires-clause-column c = c.requires.column
-
 pub read_offset-requires-clause-count : goal.read_offset-requires-clause-count
 read_offset-requires-clause-count c = c.requires.count
 
 pub read_offset-requires-clause-no_overflow : goal.read_offset-requires-clause-no_overflow
 read_offset-requires-clause-no_overflow c = omega (arith, c.requires.no_overflow, c.read_flag.ensures.few_doublings)
-
-pub read_block_values-requires-clause-layout : goal.read_block_values-requires-clause-layout
-read_block_values-requires-clause-layout c = c.requires.layout
-
-pub read_block_values-requires-clause-row : goal.read_block_values-requires-clause-row
-read_block_values-requires-clause-row c = c.requires.row
-
-pub read_block_values-requires-clause-column : goal.read_block_values-requires-clause-column
-read_block_values-requires-clause-column c = c.requires.column
 
 pub read_block_values-requires-clause-len : goal.read_block_values-requires-clause-len
 read_block_values-requires-clause-len c = c.requires.len
@@ -119,14 +101,14 @@ read_block_values-requires-clause-no_overflow c = omega (arith, c.requires.no_ov
 pub read_flag-requires : goal.read_flag-requires
 read_flag-requires c = omega (arith, c.requires.no_overflow)
 
-pub note_former-requires-clause-layout : goal.note_former-requires-clause-layout
-note_former-requires-clause-layout c = c.requires.layout
-
-pub note_former-requires-clause-row : goal.note_former-requires-clause-row
-note_former-requires-clause-row c = c.requires.row
-
-pub note_former-requires-clause-column : goal.note_former-requires-clause-column
-note_former-requires-clause-column c = c.requires.column
-
 pub note_former-requires-clause-count : goal.note_former-requires-clause-count
 note_former-requires-clause-count c = c.requires.count
+
+pub read_offset-requires-clause-block : goal.read_offset-requires-clause-block
+read_offset-requires-clause-block c = c.requires.block
+
+pub note_former-requires-clause-block : goal.note_former-requires-clause-block
+note_former-requires-clause-block c = c.requires.block
+
+pub read_block_values-requires-clause-block : goal.read_block_values-requires-clause-block
+read_block_values-requires-clause-block c = c.requires.block

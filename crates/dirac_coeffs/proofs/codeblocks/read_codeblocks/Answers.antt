@@ -41,12 +41,6 @@ returns-in-Err-clause-few_doublings c =
 pub returns-clause-few_doublings : goal.returns-clause-few_doublings
 returns-clause-few_doublings c = omega (arith, c.across.invariant.few_doublings, edge_most c.args.frame.layout.width c.args.frame.layout.across c.across.cx (omega arith) (omega arith))
 
-pub read_codeblock-requires-clause-layout : goal.read_codeblock-requires-clause-layout
-read_codeblock-requires-clause-layout c = c.requires.layout
-
-pub read_codeblock-requires-clause-row : goal.read_codeblock-requires-clause-row
-read_codeblock-requires-clause-row c = c.requires.row
-
 pub read_codeblock-requires-clause-len : goal.read_codeblock-requires-clause-len
 read_codeblock-requires-clause-len c = c.across.invariant.len ∙ c.requires.len
 
@@ -74,11 +68,11 @@ returns-clause-count c = c.across.invariant.count
 pub read_codeblock-requires-clause-no_overflow : goal.read_codeblock-requires-clause-no_overflow
 read_codeblock-requires-clause-no_overflow c = omega (arith, c.across.invariant.few_doublings, c.requires.no_overflow, c.requires.layout.width, c.requires.layout.across, edge_most c.args.frame.layout.width c.args.frame.layout.across c.across.cx (omega arith) (omega arith))
 
-pub read_codeblock-requires-clause-column : goal.read_codeblock-requires-clause-column
-read_codeblock-requires-clause-column c = omega arith
-
 pub returns-clause-value : goal.returns-clause-value
 returns-clause-value c =
     let all : c.across.cx ≡ c.args.frame.layout.across = omega (arith, c.across.auto.cx-end) in
     let P : ℕ → Type 0 = λ n. read_coded (blocks_step c.args.frame.layout (numbers_in c.args.frame.parent) c.args.frame.index c.args.cy n (content_in c.args.filling.now)) c.args.decoder.now ≡ Ok (content_in c.across.filling, c.across.decoder) in
     subst P all c.across.invariant.value
+
+pub read_codeblock-requires-clause-block : goal.read_codeblock-requires-clause-block
+read_codeblock-requires-clause-block c = record { layout = c.requires.layout; row = c.requires.row; column = omega arith }

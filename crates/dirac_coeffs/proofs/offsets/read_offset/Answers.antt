@@ -20,13 +20,13 @@ returns-in-Err-clause-value c =
     (c.former_index-former.ensures ∙ ap (λ (p : ℕ). index_before c.args.index c.args.indices.now p) place) c.in-Err.ensures.value
 
 pub codeblock_place-c-requires-clause-layout : goal.codeblock_place-c-requires-clause-layout
-codeblock_place-c-requires-clause-layout c = c.requires.layout
+codeblock_place-c-requires-clause-layout c = c.requires.block.layout
 
 pub codeblock_place-c-requires-clause-row : goal.codeblock_place-c-requires-clause-row
-codeblock_place-c-requires-clause-row c = c.requires.row
+codeblock_place-c-requires-clause-row c = c.requires.block.row
 
 pub codeblock_place-c-requires-clause-column : goal.codeblock_place-c-requires-clause-column
-codeblock_place-c-requires-clause-column c = c.requires.column
+codeblock_place-c-requires-clause-column c = c.requires.block.column
 
 pub former_index-former-requires : goal.former_index-former-requires
 former_index-former-requires c = omega (arith, c.codeblock_place-c.ensures.inside, c.requires.count)

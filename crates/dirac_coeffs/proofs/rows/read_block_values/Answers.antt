@@ -10,16 +10,16 @@ use Rattle.dirac_coeffs.proofs.Steps.{repeated_unread}
 use Rattle.dirac_coeffs.proofs.rows.read_block_values.Goals as goal
 
 pub codeblock_span-columns-requires-clause-size : goal.codeblock_span-columns-requires-clause-size
-codeblock_span-columns-requires-clause-size c = c.requires.layout.width.1
+codeblock_span-columns-requires-clause-size c = c.requires.block.layout.width.1
 
 pub codeblock_span-columns-requires-clause-c : goal.codeblock_span-columns-requires-clause-c
-codeblock_span-columns-requires-clause-c c = c.requires.column
+codeblock_span-columns-requires-clause-c c = c.requires.block.column
 
 pub codeblock_span-rows-requires-clause-size : goal.codeblock_span-rows-requires-clause-size
-codeblock_span-rows-requires-clause-size c = c.requires.layout.height.1
+codeblock_span-rows-requires-clause-size c = c.requires.block.layout.height.1
 
 pub codeblock_span-rows-requires-clause-c : goal.codeblock_span-rows-requires-clause-c
-codeblock_span-rows-requires-clause-c c = c.requires.row
+codeblock_span-rows-requires-clause-c c = c.requires.block.row
 
 pub rows-init : goal.rows-init
 rows-init c =
@@ -34,10 +34,10 @@ pub read_row-requires-clause-columns : goal.read_row-requires-clause-columns
 read_row-requires-clause-columns c = c.codeblock_span-columns.ensures.inside
 
 pub read_row-requires-clause-width : goal.read_row-requires-clause-width
-read_row-requires-clause-width c = c.requires.layout.width.1
+read_row-requires-clause-width c = c.requires.block.layout.width.1
 
 pub read_row-requires-clause-row : goal.read_row-requires-clause-row
-read_row-requires-clause-row c = omega (arith, c.codeblock_span-rows.ensures.inside, c.requires.layout.height)
+read_row-requires-clause-row c = omega (arith, c.codeblock_span-rows.ensures.inside, c.requires.block.layout.height)
 
 pub read_row-requires-clause-inside : goal.read_row-requires-clause-inside
 read_row-requires-clause-inside c =
@@ -45,7 +45,7 @@ read_row-requires-clause-inside c =
 
 pub read_row-requires-clause-no_overflow : goal.read_row-requires-clause-no_overflow
 read_row-requires-clause-no_overflow c =
-    omega (arith, c.rows.invariant.few_doublings, c.requires.no_overflow, mul-le c.rows.j c.codeblock_span-columns.result.length 8192 8192 (omega (arith, c.codeblock_span-rows.ensures.inside, c.requires.layout.height)) (omega (arith, c.codeblock_span-columns.ensures.inside, c.requires.layout.width)))
+    omega (arith, c.rows.invariant.few_doublings, c.requires.no_overflow, mul-le c.rows.j c.codeblock_span-columns.result.length 8192 8192 (omega (arith, c.codeblock_span-rows.ensures.inside, c.requires.block.layout.height)) (omega (arith, c.codeblock_span-columns.ensures.inside, c.requires.block.layout.width)))
 
 pub rows-preserved : goal.rows-preserved
 rows-preserved c =
@@ -70,7 +70,7 @@ returns-in-Err-clause-narrow c = λ n. c.rows.invariant.narrow (c.read_row.ensur
 
 pub returns-in-Err-clause-few_doublings : goal.returns-in-Err-clause-few_doublings
 returns-in-Err-clause-few_doublings c =
-    omega (arith, c.rows.invariant.few_doublings, c.read_row.ensures.few_doublings, c.codeblock_span-columns.ensures.length, mul-le (c.rows.j + 1) c.codeblock_span-columns.result.length 8192 c.codeblock_span-columns.result.length (omega (arith, c.codeblock_span-rows.ensures.inside, c.requires.layout.height)) (omega arith))
+    omega (arith, c.rows.invariant.few_doublings, c.read_row.ensures.few_doublings, c.codeblock_span-columns.ensures.length, mul-le (c.rows.j + 1) c.codeblock_span-columns.result.length 8192 c.codeblock_span-columns.result.length (omega (arith, c.codeblock_span-rows.ensures.inside, c.requires.block.layout.height)) (omega arith))
 
 pub returns-clause-value : goal.returns-clause-value
 returns-clause-value c =
@@ -85,7 +85,7 @@ pub returns-clause-narrow : goal.returns-clause-narrow
 returns-clause-narrow c = c.rows.invariant.narrow
 
 pub returns-clause-few_doublings : goal.returns-clause-few_doublings
-returns-clause-few_doublings c = omega (arith, c.rows.invariant.few_doublings, c.codeblock_span-columns.ensures.length, mul-le c.rows.j c.codeblock_span-columns.result.length 8192 c.codeblock_span-columns.result.length (omega (arith, c.codeblock_span-rows.ensures.inside, c.requires.layout.height)) (omega arith))
+returns-clause-few_doublings c = omega (arith, c.rows.invariant.few_doublings, c.codeblock_span-columns.ensures.length, mul-le c.rows.j c.codeblock_span-columns.result.length 8192 c.codeblock_span-columns.result.length (omega (arith, c.codeblock_span-rows.ensures.inside, c.requires.block.layout.height)) (omega arith))
 
 pub overflow_add-rows : goal.overflow_add-rows
-overflow_add-rows c = omega (arith, c.codeblock_span-rows.ensures.inside, c.requires.layout.height)
+overflow_add-rows c = omega (arith, c.codeblock_span-rows.ensures.inside, c.requires.block.layout.height)
