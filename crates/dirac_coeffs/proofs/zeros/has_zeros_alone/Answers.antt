@@ -1,6 +1,5 @@
-use Rattle.std.proofs.Common.{◌+◌, ◌*◌, ◌≤◌, false, inl, inr, length, true, arith}
+use Rattle.std.proofs.Common.{◌+◌, false, inl, inr, length, true, arith}
 use Rattle.std.proofs.lemmas.Bool.{cases_eq, false≢true, true≢false}
-use Rattle.std.proofs.lemmas.Nat.{mul-le}
 use Rattle.dirac_coeffs.specs.Lent.{numbers_in}
 use Rattle.dirac_coeffs.proofs.Edges.{rows_inside}
 use Rattle.dirac_coeffs.proofs.ZeroTests.{tests_block}
