@@ -3,6 +3,7 @@ use Rattle.std.proofs.Common.{◌≡◌, ℕ, zero, suc, ◌+◌, ◌<◌, ◌�
 use Rattle.std.specs.Prelude.{if◌then◌else◌}
 use native.Mathlib.Numerals.{unary_clauses}
 use Rattle.std.proofs.lemmas.Bool.{cases_eq}
+use Rattle.std.proofs.lemmas.Option.{none-some}
 use Rattle.dirac_common.specs.Chain.{◌>>=◌ as ◌>>◌}
 use Rattle.dirac_common.specs.declared.faults.Refusal.{Refusal}
 use Rattle.dirac_common.specs.declared.formats.Component.TheVariants as components
@@ -136,14 +137,14 @@ list_absent (suc (suc (suc (suc (suc (suc (suc (suc (suc n))))))))) t c l not = 
 -- the list without a part comes first
 pub splits_first : (n : ℕ) → n < 9 → list_at n ≡ None → n ≡ 0
 splits_first zero l none = refl
-splits_first (suc zero) l none = absurd cc
-splits_first (suc (suc zero)) l none = absurd cc
-splits_first (suc (suc (suc zero))) l none = absurd cc
-splits_first (suc (suc (suc (suc zero)))) l none = absurd cc
-splits_first (suc (suc (suc (suc (suc zero))))) l none = absurd cc
-splits_first (suc (suc (suc (suc (suc (suc zero)))))) l none = absurd cc
-splits_first (suc (suc (suc (suc (suc (suc (suc zero))))))) l none = absurd cc
-splits_first (suc (suc (suc (suc (suc (suc (suc (suc zero)))))))) l none = absurd cc
+splits_first (suc zero) l none = absurd (none-some _ (sym none))
+splits_first (suc (suc zero)) l none = absurd (none-some _ (sym none))
+splits_first (suc (suc (suc zero))) l none = absurd (none-some _ (sym none))
+splits_first (suc (suc (suc (suc zero)))) l none = absurd (none-some _ (sym none))
+splits_first (suc (suc (suc (suc (suc zero))))) l none = absurd (none-some _ (sym none))
+splits_first (suc (suc (suc (suc (suc (suc zero)))))) l none = absurd (none-some _ (sym none))
+splits_first (suc (suc (suc (suc (suc (suc (suc zero))))))) l none = absurd (none-some _ (sym none))
+splits_first (suc (suc (suc (suc (suc (suc (suc (suc zero)))))))) l none = absurd (none-some _ (sym none))
 splits_first (suc (suc (suc (suc (suc (suc (suc (suc (suc n))))))))) l none = absurd (omega arith)
 
 -- the first n of a table's lists, where they are there

@@ -1,5 +1,7 @@
 -- Steps of a table, its sizes and its units.
-use Rattle.std.proofs.Common.{◌≡◌, ℕ, ◌+◌, ◌*◌, ◌%◌, ◌^◌, ◌<◌, ◌≤◌, [], ◌∷◌, Result, Ok, Err, refl, sym, ap, ap₂, ◌∙◌, arith, subst, List, slice_index_or}
+use Rattle.std.proofs.Common.{◌≡◌, ℕ, ◌+◌, ◌*◌, ◌%◌, ◌^◌, ◌<◌, ◌≤◌, [], ◌∷◌, Result, Ok, Err, refl, sym, ap, ap₂, ◌∙◌, arith, subst, List, inl, inr, replicate, slice_index_or}
+use Rattle.std.proofs.lemmas.Bool.{cases_lt}
+use Rattle.std.proofs.lemmas.List.{length-replicate, get_or-replicate, get_or_past}
 use Rattle.std.proofs.lemmas.Nat.{mul-le}
 use Rattle.dirac_common.specs.declared.faults.Cause.{Cause}
 use Rattle.dirac_arith.specs.Coded.{done, read_coded, repeated}
@@ -8,10 +10,10 @@ use Rattle.dirac_arith.specs.Deciding.{number_read}
 use Rattle.dirac_arith.specs.Reading.{Reading}
 use Rattle.dirac_blocks.specs.declared.parts.ListKind.{ListKind}
 use Rattle.dirac_blocks.specs.Decisions.{UnitPart, predicted_split, superblock_part, unit_rows}
-use Rattle.dirac_blocks.specs.Grammar.{TableStep, split_step, superblock_step, unit_coded, unit_read_step, unit_rows_step, with_split, with_unit}
-use Rattle.dirac_blocks.specs.Reached.{IsFirstOfUnit, SameBlocks, SameShape, SameSize}
+use Rattle.dirac_blocks.specs.Grammar.{TableStep, empty_table, split_step, superblock_step, unit_coded, unit_read_step, unit_rows_step, with_split, with_unit}
+use Rattle.dirac_blocks.specs.Reached.{AllGrey, IsFirstOfUnit, SameBlocks, SameShape, SameSize}
 use Rattle.dirac_block_table.specs.declared.block.Block.{Block}
-use Rattle.dirac_block_table.specs.Tables.{BlockTable, split_at, unit_size}
+use Rattle.dirac_block_table.specs.Tables.{BlockTable, grey, split_at, unit_size}
 use Rattle.dirac_block_table.proofs.Units.{of_splits}
 
 -- steps by rows and columns, where sizes are the same
@@ -135,3 +137,12 @@ unit_refused part t size i j old e refused = then_is_read (unit_coded part t i j
 
 pub unit_written : (t u : BlockTable) (size i j : ℕ) (b : Block) → u ≡ with_unit t size i j b → SameShape t u
 unit_written t u size i j b is = subst (SameShape t) (sym is) (record { across = refl; down = refl; refs = refl; splits = refl })
+
+-- before anything is read all blocks are DC blocks of value 0
+pub empty_grey : (across down refs : ℕ) → AllGrey (empty_table across down refs).blocks
+empty_grey across down refs k =
+    let count = 4 * down * (4 * across) in
+    elim (cases_lt k count) [
+      | inl inside ↦ get_or-replicate count k grey grey inside
+      | inr past ↦ get_or_past (replicate count grey) k grey (omega (arith, length-replicate count grey))
+    ]

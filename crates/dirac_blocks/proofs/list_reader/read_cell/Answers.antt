@@ -1,4 +1,5 @@
 use Rattle.std.proofs.Common.{arith, sym, ◌∙◌}
+use Rattle.std.proofs.lemmas.Option.{none-some}
 use Rattle.dirac_blocks.proofs.list_reader.read_cell.Goals as goal
 
 pub read_split-requires-clause-grey : goal.read_split-requires-clause-grey
@@ -48,4 +49,4 @@ pub read_superblock-requires-clause-no_overflow : goal.read_superblock-requires-
 read_superblock-requires-clause-no_overflow c = c.requires.no_overflow
 
 pub returns-in-Some-clause-blocks : goal.returns-in-Some-clause-blocks
-returns-in-Some-clause-blocks c = λ e. let no = sym c.in-Some.is ∙ e in absurd cc
+returns-in-Some-clause-blocks c = λ e. absurd (none-some c.in-Some.part (sym e ∙ c.in-Some.is))

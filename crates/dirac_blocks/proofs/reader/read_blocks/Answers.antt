@@ -1,7 +1,9 @@
-use Rattle.std.proofs.Common.{◌≤◌, ℕ, List, length, ap, ◌∙◌, subst, refl}
+use Rattle.std.proofs.Common.{◌≤◌, ℕ, List, length, ap, ◌∙◌, subst, refl, sym}
 use Rattle.dirac_blocks.proofs.InTurn.{blocks_read}
 use Rattle.dirac_bits.specs.Cursor.{Cursor}
 use Rattle.dirac_block_table.specs.Tables.{BlockTable}
+use Rattle.dirac_blocks.specs.Reached.{AllGrey}
+use Rattle.dirac_blocks.proofs.Shapes.{empty_grey}
 use Rattle.dirac_blocks.proofs.reader.read_blocks.Goals as goal
 
 pub returns-in-Ok-read_lists-clause-value : goal.returns-in-Ok-read_lists-clause-value
@@ -71,3 +73,6 @@ returns-in-Err-clause-refs c = tt
 
 pub returns-in-Err-clause-kept : goal.returns-in-Err-clause-kept
 returns-in-Err-clause-kept c = refl
+
+pub read_lists-requires : goal.read_lists-requires
+read_lists-requires c = subst (λ (t : BlockTable). AllGrey t.blocks) (sym c.in-Ok.ensures) (empty_grey c.args.across c.args.down c.args.refs)
