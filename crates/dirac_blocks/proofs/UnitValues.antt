@@ -15,6 +15,7 @@ use Rattle.dirac_arith.specs.Spelling.{signed_spelling}
 use Rattle.dirac_vectors.proofs.Means.{passed}
 use Rattle.dirac_vectors.specs.Neighbours.{IsShort}
 use Rattle.dirac_block_table.specs.declared.block.Block.{Block}
+use Rattle.dirac_block_table.proofs.Empty.{grey_lawful}
 use Rattle.dirac_common.specs.declared.formats.Component.{Component}
 use Rattle.dirac_common.specs.declared.formats.Component.TheVariants as components
 use Rattle.dirac_block_table.specs.declared.reference.Reference.{Reference}
@@ -168,3 +169,9 @@ both_told t i j bit bit' old mid new two is is' first second =
     new ≡ narrowed_by (narrowed old (REFERENCE_1, differ (block_at t i j).ref1 (predicted mode_of (ref1_at t) i j))) (if b then (REFERENCE_2, differ (block_at t i j).ref2 (predicted mode_of (ref2_at t) i j)) ∷ [] else []) in
     subst P (sym (eq-eqb t.refs 2 two))
     (second ∙ ap₂ (λ (s : Interval) (b : Bool). narrowed s (REFERENCE_2, b)) (first ∙ ap (λ (b : Bool). narrowed old (REFERENCE_1, b)) is) is')
+
+-- a block that uses these references is lawful, where the second one is used of two alone
+pub mode_lawful : (refs : ℕ) (first second : Bool) → (refs ≡ 1 → second ≡ false) → IsBlock refs (block_using first second)
+mode_lawful refs first second single =
+    let g = grey_lawful refs in
+    record { second = single; v1 = g.v1; v2 = g.v2; dc_y = g.dc_y; dc_u = g.dc_u; dc_v = g.dc_v; no_v1 = λ e. refl; no_v2 = λ e. refl; no_dc = λ e. (refl, refl, refl) }

@@ -1,9 +1,9 @@
-ghost use Rattle.std.specs.Prelude.{◌≡◌, ℤ, ◌+◌, ◌*◌, ◌<◌, ◌≤◌, ◌^◌, false, true, length, IfOk};
+ghost use Rattle.std.specs.Prelude.{◌≡◌, ℤ, ◌+◌, ◌*◌, ◌<◌, ◌≤◌, ◌^◌, true, length, IfOk};
 ghost use Rattle.dirac_arith.specs.Deciding.{GivesReading};
 ghost use Rattle.dirac_arith.specs.Spelling.{AreContexts};
 ghost use Rattle.dirac_vectors.specs.Neighbours.{IsShort};
 ghost use Rattle.dirac_arith.specs.Coded.{read_coded};
-ghost use Rattle.dirac_blocks.specs.Grammar.{block_using, is_dc, has_16_bits, mode_coded, second_use};
+ghost use Rattle.dirac_blocks.specs.Grammar.{block_using, is_dc, has_16_bits, mode_coded};
 ghost use Rattle.dirac_blocks.specs.Grammar.{unit_coded, uses, value_coded, with_component, with_dc};
 ghost use Rattle.dirac_blocks.specs.Parts.{component_list};
 ghost use Rattle.dirac_block_table.specs.Tables.{IsBlock};
@@ -60,32 +60,6 @@ fn read_value(
     }
 }
 
-/// Reads whether a unit uses reference 2, where there is one; `i` and `j` are the place of its first block.
-fn read_second_use(
-    decoder: &mut Decoder<'_>,
-    table: &BlockData,
-    i: u32,
-    j: u32,
-) -> Result<bool, Cause>
-    requires column { i < 4 * table.now.across }
-    requires row { j < 4 * table.now.down }
-    requires no_overflow { decoder.old.at.doublings < 2 ^ 61 }
-    ensures value { GivesReading result decoder.new (read_coded (second_use table.now i j) decoder.old) }
-    ensures single { table.now.refs ≡ 1 → IfOk result (λ second. second ≡ false) }
-    ensures few_doublings { decoder.new.at.doublings ≤ decoder.old.at.doublings + 9 }
-{
-    if table.refs() != 2 {
-        return Ok(false);
-    }
-    match decoder.decision(REFERENCE_2) {
-        Ok(bit) => {
-            let prediction = predicted_use_bit(table, Reference::Second, i, j);
-            Ok(differs(bit, prediction))
-        }
-        Err(e) => Err(e),
-    }
-}
-
 /// A block that uses these references, all of whose values are 0.
 fn block_of(first: bool, second: bool) -> Block
     ensures { result ≡ block_using first second }
@@ -102,7 +76,7 @@ fn block_of(first: bool, second: bool) -> Block
     }
 }
 
-/// Reads which references a unit uses.
+/// Reads which references a unit uses: the second one only where there is one.
 fn read_mode(decoder: &mut Decoder<'_>, table: &BlockData, i: u32, j: u32) -> Result<Block, Cause>
     requires column { i < 4 * table.now.across }
     requires row { j < 4 * table.now.down }
@@ -115,8 +89,16 @@ fn read_mode(decoder: &mut Decoder<'_>, table: &BlockData, i: u32, j: u32) -> Re
         Ok(bit) => {
             let prediction = predicted_use_bit(table, Reference::First, i, j);
             let first = differs(bit, prediction);
-            match read_second_use(decoder, table, i, j) {
-                Ok(second) => Ok(block_of(first, second)),
+            if table.refs() != 2 {
+                return Ok(block_of(first, false));
+            }
+            let other = predicted_use_bit(table, Reference::Second, i, j);
+            match decoder.decision(REFERENCE_2) {
+                Ok(other_bit) => {
+                    let second = differs(other_bit, other);
+                    let block = block_of(first, second);
+                    Ok(block)
+                }
                 Err(e) => Err(e),
             }
         }
