@@ -1,5 +1,5 @@
 -- What a list tells, by rows of superblocks: the splits, or what a part tells of each unit.
-use Rattle.std.proofs.Common.{◌≡◌, ℕ, ◌+◌, ◌++◌, [], List, Option, Some, None, Result, refl}
+use Rattle.std.proofs.Common.{◌≡◌, ℕ, ◌+◌, ◌++◌, [], List, Option, Some, None, Ok, Result, refl}
 use Rattle.dirac_common.specs.declared.faults.Cause.{Cause}
 use Rattle.dirac_arith.specs.Coded.{read_coded, repeated}
 use Rattle.dirac_arith.specs.Interval.{Decision, InContexts}
@@ -8,7 +8,7 @@ use Rattle.dirac_block_table.specs.Tables.{BlockTable}
 use Rattle.dirac_blocks.specs.declared.parts.ListKind.{ListKind}
 use Rattle.dirac_blocks.specs.Decisions.{least_numbers, split_row, split_rows, superblock_row, superblock_rows}
 use Rattle.dirac_blocks.specs.Grammar.{list_step, step_of}
-use Rattle.dirac_blocks.specs.Parts.{list_decisions, list_part, list_row, part_at}
+use Rattle.dirac_blocks.specs.Parts.{list_decisions, list_part, part_at}
 use Rattle.dirac_blocks.proofs.InContexts.{in_parts, in_split_rows}
 use Rattle.dirac_blocks.proofs.Narrowing.{split_row_next, split_rows_next, superblock_row_next, superblock_rows_next}
 
@@ -18,7 +18,19 @@ pub by_superblocks : (list : Option ListKind) (t : BlockTable) (r : Reading) {y 
 by_superblocks None t r is = is
 by_superblocks (Some p) t r is = is
 
--- what a list codes of the first n rows
+-- how far a list is read in row sy: to the first sx superblocks, behind all rows before it
+pub record RowReached (list : Option ListKind) (old : BlockTable) (across : ℕ) (start : Reading) (sy sx : ℕ) (t : BlockTable) (r : Reading) : Type 0 where
+  pub table : BlockTable
+  pub reading : Reading
+  pub rows : read_coded (repeated (λ k. repeated (list_step list k) across) sy old) start ≡ Ok (table, reading)
+  pub row : read_coded (repeated (list_step list sy) sx table) reading ≡ Ok (t, r)
+
+-- what a list codes of the first n superblocks of row sy
+abbrev pub list_row : Option ListKind → BlockTable → ℕ → ℕ → List Decision
+list_row None t sy n = split_row (least_numbers t) sy n
+list_row (Some p) t sy n = superblock_row (part_at p t) t sy n
+
+-- what it codes of the first n rows
 abbrev pub list_rows : Option ListKind → BlockTable → ℕ → List Decision
 list_rows None t n = split_rows t.across (least_numbers t) n
 list_rows (Some p) t n = superblock_rows (part_at p t) t n

@@ -12,8 +12,8 @@ pub use Rattle.dirac_block_table.specs.Neighbours.{use_at, vector_at, dc_at}
 use Rattle.dirac_block_table.specs.Tables.{BlockTable}
 use Rattle.dirac_arith.specs.Spelling.{spelling}
 use Rattle.dirac_arith.specs.declared.contexts.TheConstants.{SPLIT_DIGITS, SPLIT_FOLLOW}
-use Rattle.dirac_blocks.specs.Decisions.{mode_part, vector_part, dc_part, least_numbers, split_row, split_rows}
-use Rattle.dirac_blocks.specs.Decisions.{superblock_part, superblock_row, unit_decisions}
+use Rattle.dirac_blocks.specs.Decisions.{mode_part, vector_part, dc_part, least_numbers, split_rows}
+use Rattle.dirac_blocks.specs.Decisions.{superblock_part, unit_decisions}
 
 -- what a part tells of a unit
 abbrev pub part_at : ListKind → BlockTable → ℕ → ℕ → List Decision
@@ -41,11 +41,6 @@ list_decisions (Some p) t = unit_decisions t (part_at p t)
 abbrev pub list_part : Option ListKind → BlockTable → ℕ → ℕ → List Decision
 list_part None t sx sy = spelling SPLIT_FOLLOW SPLIT_DIGITS (least_numbers t sy sx)
 list_part (Some p) t sx sy = superblock_part (part_at p t) t sx sy
-
--- what it codes of the first n superblocks of row sy
-abbrev pub list_row : Option ListKind → BlockTable → ℕ → ℕ → List Decision
-list_row None t sy n = split_row (least_numbers t) sy n
-list_row (Some p) t sy n = superblock_row (part_at p t) t sy n
 
 -- that list, where it is there
 abbrev pub list_there : Option ListKind → BlockTable → List (List Decision)

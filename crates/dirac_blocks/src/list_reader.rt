@@ -1,5 +1,5 @@
-ghost use Rattle.std.specs.Prelude.{◌≡◌, ◌+◌, ◌*◌, ◌^◌, ◌<◌, ◌≤◌, length, IfErr, None};
-ghost use Rattle.dirac_arith.specs.Coded.{read_coded, repeated};
+ghost use Rattle.std.specs.Prelude.{◌≡◌, ◌+◌, ◌^◌, ◌<◌, ◌≤◌, length, IfErr, None};
+ghost use Rattle.dirac_arith.specs.Coded.{read_coded};
 ghost use Rattle.dirac_bits.specs.Syntax.{read};
 ghost use Rattle.dirac_blocks.specs.Grammar.{list_over, list_step, lists_of, step_of};
 ghost use Rattle.dirac_blocks.specs.Reached.{AllGrey, BlockIsRead, ListIsRead, SameSize, StepMoves};
@@ -35,33 +35,6 @@ fn read_cell(
     }
 }
 
-/// Reads what a list tells of the first `count` superblocks of row `sy`.
-fn read_row(
-    decoder: &mut Decoder<'_>,
-    table: &mut BlockData,
-    list: Option<ListKind>,
-    sy: u32,
-    count: u32,
-) -> Result<(), Cause>
-    requires column { count ≤ table.old.across }
-    requires row { sy < table.old.down }
-    requires grey { list ≡ None → AllGrey table.old.blocks }
-    requires no_overflow { decoder.old.at.doublings < 2 ^ 56 }
-    ensures value { StepMoves result table.new decoder.new
-        (read_coded (repeated (list_step list sy) count table.old) decoder.old) }
-    ensures size { SameSize table.old table.new }
-    ensures blocks { list ≡ None → table.new.blocks ≡ table.old.blocks }
-    ensures few_doublings { decoder.new.at.doublings ≤ decoder.old.at.doublings + 11232 * count }
-{
-    'superblocks: for n in 0..count {
-        match read_cell(decoder, table, list, n, sy) {
-            Ok(()) => {}
-            Err(cause) => return Err(cause),
-        }
-    }
-    Ok(())
-}
-
 /// Reads what a list tells from its arithmetic block: of each unit, or, where no part is named, the splits.
 fn decode_list(block: &[u8], table: &mut BlockData, list: Option<ListKind>) -> Result<(), Cause>
     requires { list ≡ None → AllGrey table.old.blocks }
@@ -71,10 +44,12 @@ fn decode_list(block: &[u8], table: &mut BlockData, list: Option<ListKind>) -> R
     let mut decoder = Decoder::new(block);
     let across = table.across();
     let down = table.down();
-    'rows: for n in 0..down {
-        match read_row(&mut decoder, table, list, n, across) {
-            Ok(()) => {}
-            Err(cause) => return Err(cause),
+    'rows: for sy in 0..down {
+        'superblocks: for sx in 0..across {
+            match read_cell(&mut decoder, table, list, sx, sy) {
+                Ok(()) => {}
+                Err(cause) => return Err(cause),
+            }
         }
     }
     Ok(())

@@ -1,7 +1,7 @@
-ghost use Rattle.std.specs.Prelude.{◌≡◌, ◌<◌, ◌≤◌, IfOk, OnOk};
+ghost use Rattle.std.specs.Prelude.{◌≡◌, ◌<◌, IfOk, OnOk};
 ghost use Rattle.dirac_arith.specs.Interval.{narrowed_by};
 ghost use Rattle.dirac_arith.specs.Written.{flush};
-ghost use Rattle.dirac_blocks.specs.Parts.{list_decisions, list_part, list_row};
+ghost use Rattle.dirac_blocks.specs.Parts.{list_decisions, list_part};
 
 use crate::parts::ListKind;
 use crate::split_writer::write_split;
@@ -29,27 +29,6 @@ fn write_cell(
     }
 }
 
-/// Writes what a list tells of the first `count` superblocks of row `sy`.
-fn write_row(
-    encoder: &mut Encoder,
-    table: &BlockData,
-    list: Option<ListKind>,
-    sy: u32,
-    count: u32,
-) -> Result<(), NoMemory>
-    requires column { count ≤ table.now.across }
-    requires row { sy < table.now.down }
-    ensures { OnOk result (encoder.new ≡ narrowed_by encoder.old (list_row list table.now sy count)) }
-{
-    'superblocks: for n in 0..count {
-        match write_cell(encoder, table, list, n, sy) {
-            Ok(()) => {}
-            Err(e) => return Err(e),
-        }
-    }
-    Ok(())
-}
-
 /// The arithmetic block of a list.
 pub fn list_block(
     alloc: Global,
@@ -61,10 +40,12 @@ pub fn list_block(
     let mut encoder = Encoder::new(alloc);
     let across = table.across();
     let down = table.down();
-    'rows: for n in 0..down {
-        match write_row(&mut encoder, table, list, n, across) {
-            Ok(()) => {}
-            Err(e) => return Err(e),
+    'rows: for sy in 0..down {
+        'superblocks: for sx in 0..across {
+            match write_cell(&mut encoder, table, list, sx, sy) {
+                Ok(()) => {}
+                Err(e) => return Err(e),
+            }
         }
     }
     encoder.finish()
