@@ -25,7 +25,7 @@ use Rattle.dirac_coeffs.specs.declared.layout.BandLayout.{BandLayout}
 use Rattle.dirac_coeffs.specs.declared.store.Unread.{Unread}
 use Rattle.dirac_coeffs.specs.declared.store.Unread.TheVariants as unread
 use Rattle.dirac_coeffs.specs.Answers.{Fills, GivesBlock, GivesNarrow, Goes, Holds, RefusedBy, stopped_at}
-use Rattle.dirac_coeffs.specs.BandRead.{Content, band_content, block_rows_step, unread, band_coded, band_read}
+use Rattle.dirac_coeffs.specs.BandRead.{Content, band_content, block_rows_step, blocks_step, unread, band_coded, band_read}
 use Rattle.dirac_coeffs.specs.Carried.{AreLawful, AreSmall, CarriesBand, BandBreaksOff, CarriesLong, CarriesNoIndex}
 use Rattle.dirac_coeffs.specs.Decisions.{Marks, band_decisions}
 use Rattle.dirac_coeffs.specs.Indices.{all_equal}
@@ -303,3 +303,10 @@ block_long layout at parent index block r lawful few given e =
 pub block_no_index : (layout : BandLayout) (at : ℕ) (parent : List ℤ) (index : ℕ) (block : List ℕ) (r : Result BandBlock Stop) → IsBandLayout layout → IsIndex index → GivesBlock layout at r (band_read layout parent index block) → r ≡ Err (stop.Refused (record { at = at; cause = QuantIndex })) → CarriesNoIndex layout parent index block
 block_no_index layout at parent index block r lawful few given e =
     break_carried layout parent index block QuantIndex (λ k. absurd cc) (block_stops layout at parent index block r QuantIndex e given)
+
+-- how far a band is read in row cy of codeblocks: to the first cx of them, behind all rows before it
+pub record RowReached (layout : BandLayout) (parent : List ℤ) (index : ℕ) (old : Content) (start : Reading) (cy cx : ℕ) (c : Content) (r : Reading) : Type 0 where
+  pub content : Content
+  pub reading : Reading
+  pub rows : read_coded (block_rows_step layout parent index cy old) start ≡ Ok (content, reading)
+  pub row : read_coded (blocks_step layout parent index cy cx content) reading ≡ Ok (c, r)

@@ -6,10 +6,11 @@ ghost use Rattle.dirac_coeffs.specs.Lent.{numbers_in};
 ghost use Rattle.dirac_coeffs.specs.Written.{AreIndicesOf, block_of};
 ghost use Rattle.dirac_coeffs.specs.WrittenBand.{block_of_band};
 
-use crate::codeblock_writer::write_codeblocks;
+use crate::codeblock_writer::write_codeblock;
 use crate::indices::Indices;
 use crate::layout::{BandLayout, WrittenBand};
 use crate::numbers::Numbers;
+use crate::spans::Codeblock;
 use dirac_arith::Encoder;
 use dirac_common::NoMemory;
 use std::alloc::Global;
@@ -25,9 +26,15 @@ pub fn write_below(alloc: Global, band: WrittenBand<'_>) -> Result<Vec<u8>, NoMe
 {
     let mut encoder = Encoder::new(alloc);
     'down: for cy in 0..band.layout.down {
-        match write_codeblocks(&mut encoder, band, cy) {
-            Ok(()) => {}
-            Err(e) => return Err(e),
+        'across: for cx in 0..band.layout.across {
+            let codeblock = Codeblock {
+                row: cy,
+                column: cx,
+            };
+            match write_codeblock(&mut encoder, band, codeblock) {
+                Ok(()) => {}
+                Err(e) => return Err(e),
+            }
         }
     }
     encoder.finish()

@@ -1,6 +1,6 @@
-ghost use Rattle.std.specs.Prelude.{◌≡◌, ◌<◌, OnOk};
+ghost use Rattle.std.specs.Prelude.{◌≡◌, OnOk};
 ghost use Rattle.dirac_arith.specs.Interval.{narrowed_by};
-ghost use Rattle.dirac_coeffs.specs.WrittenBand.{IsBandToWrite, IsBlockToWrite, blocks_of_row, unskipped_block};
+ghost use Rattle.dirac_coeffs.specs.WrittenBand.{IsBlockToWrite, unskipped_block};
 ghost use Rattle.dirac_coeffs.specs.WrittenBand.{whole_block};
 
 use crate::layout::WrittenBand;
@@ -28,7 +28,7 @@ fn write_unskipped(
 }
 
 /// Writes a codeblock behind its zero flag, where it has one.
-fn write_codeblock(
+pub fn write_codeblock(
     encoder: &mut Encoder,
     band: WrittenBand<'_>,
     codeblock: Codeblock,
@@ -47,25 +47,4 @@ fn write_codeblock(
         Ok(()) => write_unskipped(encoder, band, codeblock),
         Err(e) => Err(e),
     }
-}
-
-/// Writes row `cy` of codeblocks.
-pub fn write_codeblocks(
-    encoder: &mut Encoder,
-    band: WrittenBand<'_>,
-    cy: u32,
-) -> Result<(), NoMemory>
-    requires writable { IsBandToWrite band }
-    requires row { cy < band.layout.down }
-    ensures { OnOk result (encoder.new ≡ narrowed_by encoder.old
-        (blocks_of_row band.entry cy band.entry.layout.across)) }
-{
-    'across: for cx in 0..band.layout.across {
-        let codeblock = Codeblock {
-            row: cy,
-            column: cx,
-        };
-        write_codeblock(encoder, band, codeblock)?;
-    }
-    Ok(())
 }

@@ -1,7 +1,7 @@
 ghost use Rattle.std.specs.Prelude.{◌≡◌, ◌+◌, ◌*◌, ◌^◌, ◌<◌, ◌≤◌, length, pos, replicate};
 ghost use Rattle.dirac_arith.specs.Coded.{read_coded};
 ghost use Rattle.dirac_coeffs.specs.Answers.{Fills, Flags, Goes};
-ghost use Rattle.dirac_coeffs.specs.BandRead.{block_step, blocks_step};
+ghost use Rattle.dirac_coeffs.specs.BandRead.{block_step};
 ghost use Rattle.dirac_coeffs.specs.BandRead.{band_read};
 ghost use Rattle.dirac_coeffs.specs.Indices.{all_equal};
 ghost use Rattle.dirac_coeffs.specs.Layouts.{IsBandLayout, codeblock_extent, IsCodeblockOf};
@@ -91,40 +91,6 @@ fn read_codeblock(
     }
 }
 
-/// Reads row `cy` of codeblocks.
-fn read_codeblocks(
-    decoder: &mut Decoder<'_>,
-    filling: &mut Filling,
-    frame: BandFrame<'_>,
-    cy: u32,
-) -> Result<(), Unread>
-    requires layout { IsBandLayout frame.layout }
-    requires row { cy < frame.layout.down }
-    requires len { length (values_in filling.old.values) ≡ frame.layout.width * frame.layout.height }
-    requires count { length filling.old.indices ≡ frame.layout.across * frame.layout.down }
-    requires no_overflow { decoder.old.at.doublings < 2 ^ 56 }
-    ensures value { Goes (IsNarrow filling.new.values) result (content_in filling.new) decoder.new
-        (read_coded (blocks_step frame.entry.layout (numbers_in frame.entry.parent) frame.entry.index cy
-        frame.entry.layout.across (content_in filling.old)) decoder.old) }
-    ensures len { length (values_in filling.new.values) ≡ length (values_in filling.old.values) }
-    ensures narrow { IsNarrow filling.new.values → IsNarrow filling.old.values }
-    ensures count { length filling.new.indices ≡ length filling.old.indices }
-    ensures few_doublings { decoder.new.at.doublings ≤ decoder.old.at.doublings + 711 * LARGEST_TABLE_SIDE + 702 *
-        LARGEST_TABLE_SIDE * LARGEST_TABLE_SIDE }
-{
-    'across: for cx in 0..frame.layout.across {
-        let codeblock = Codeblock {
-            row: cy,
-            column: cx,
-        };
-        match read_codeblock(decoder, filling, frame, codeblock) {
-            Ok(()) => {}
-            Err(unread) => return Err(unread),
-        }
-    }
-    Ok(())
-}
-
 /// Reads a block into values that are zeros, and indices that are the band's.
 pub fn read_content(block: &[u8], filling: &mut Filling, frame: BandFrame<'_>) -> Result<(), Unread>
     requires layout { IsBandLayout frame.layout }
@@ -137,9 +103,15 @@ pub fn read_content(block: &[u8], filling: &mut Filling, frame: BandFrame<'_>) -
 {
     let mut decoder = Decoder::new(block);
     'down: for cy in 0..frame.layout.down {
-        match read_codeblocks(&mut decoder, filling, frame, cy) {
-            Ok(()) => {}
-            Err(unread) => return Err(unread),
+        'across: for cx in 0..frame.layout.across {
+            let codeblock = Codeblock {
+                row: cy,
+                column: cx,
+            };
+            match read_codeblock(&mut decoder, filling, frame, codeblock) {
+                Ok(()) => {}
+                Err(unread) => return Err(unread),
+            }
         }
     }
     Ok(())

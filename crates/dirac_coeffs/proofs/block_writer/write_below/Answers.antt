@@ -1,13 +1,14 @@
-use Rattle.std.proofs.Common.{◌≡◌, ◌+◌, ◌∙◌, ℕ, List, Ok, IfOk, ap, arith, subst}
+use Rattle.std.proofs.Common.{◌≡◌, ◌+◌, ◌++◌, ◌∙◌, ℕ, List, Ok, IfOk, ap, append_assoc, arith, subst, sym}
+use Rattle.std.proofs.lemmas.List.{append-nil}
 use Rattle.std.proofs.lemmas.Result.{IfOk-weaker}
-use Rattle.dirac_arith.specs.Interval.{whole}
+use Rattle.dirac_arith.specs.Interval.{Decision, whole, narrowed_by}
 use Rattle.dirac_arith.specs.Written.{flush}
 use Rattle.dirac_arith.proofs.Spellings.{narrowed_more}
 use Rattle.dirac_coeffs.specs.BandRead.{band_read, band_content}
-use Rattle.dirac_coeffs.specs.Decisions.{bands_part}
+use Rattle.dirac_coeffs.specs.Decisions.{bands_part, blocks_part}
 use Rattle.dirac_coeffs.specs.Lent.{numbers_in}
-use Rattle.dirac_coeffs.specs.WrittenBand.{block_of_band, blocks_of_row, marks_in, rows_of_blocks}
-use Rattle.dirac_coeffs.proofs.AgreementOfBlocks.{bands_next}
+use Rattle.dirac_coeffs.specs.WrittenBand.{block_of_band, blocks_of_row, marks_in, rows_of_blocks, whole_block}
+use Rattle.dirac_coeffs.proofs.AgreementOfBlocks.{bands_next, blocks_next}
 use Rattle.dirac_coeffs.proofs.Writing.{in_bands, written_read}
 use Rattle.dirac_coeffs.proofs.block_writer.write_below.Goals as goal
 
@@ -15,24 +16,40 @@ pub down-init : goal.down-init
 unfolding bands_part
 down-init c = c.new-encoder.ensures
 
-pub write_codeblocks-requires-clause-writable : goal.write_codeblocks-requires-clause-writable
-write_codeblocks-requires-clause-writable c =
+pub across-init : goal.across-init
+unfolding blocks_part
+across-init c = c.down.invariant ∙ ap (λ (ds : List Decision). narrowed_by whole ds) (sym (append-nil (rows_of_blocks c.args.band c.down.cy)))
+
+pub write_codeblock-requires : goal.write_codeblock-requires
+write_codeblock-requires c =
     record {
-      layout = c.requires.layout;
-      len = c.requires.lawful.len;
-      magnitudes_bounded = c.requires.lawful.small;
-      count = c.requires.lawful.count;
+      writable =
+          record {
+            layout = c.requires.layout;
+            len = c.requires.lawful.len;
+            magnitudes_bounded = c.requires.lawful.small;
+            count = c.requires.lawful.count;
+          };
+      row = omega arith;
+      column = omega arith;
     }
 
-pub write_codeblocks-requires-clause-row : goal.write_codeblocks-requires-clause-row
-write_codeblocks-requires-clause-row c = omega arith
+pub across-preserved : goal.across-preserved
+across-preserved c =
+    let band = c.args.band in
+    let cy = c.down.cy in
+    let n = c.across.cx in
+    let before = rows_of_blocks band cy in
+    narrowed_more whole c.across.encoder c.write_codeblock.new.encoder (before ++ blocks_of_row band cy n) (whole_block band cy n) (before ++ blocks_of_row band cy (n + 1)) c.across.invariant c.in-Ok.ensures
+    (ap (λ (ds : List Decision). before ++ ds) (blocks_next band.layout (numbers_in band.parent) (numbers_in band.values) (marks_in band cy) cy n) ∙ sym (append_assoc before (blocks_of_row band cy n) (whole_block band cy n)))
 
 pub down-preserved : goal.down-preserved
 down-preserved c =
     let band = c.args.band in
-    let n = c.down.cy in
-    narrowed_more whole c.down.encoder c.write_codeblocks.new.encoder (rows_of_blocks band n) (blocks_of_row band n band.layout.across) (rows_of_blocks band (n + 1))
-    c.down.invariant c.in-Ok.ensures (bands_next band.layout (numbers_in band.parent) (numbers_in band.values) (marks_in band) n)
+    let cy = c.down.cy in
+    let all : c.across.cx ≡ band.layout.across = omega (arith, c.across.auto.cx-end) in
+    let row = ap (λ (n : ℕ). rows_of_blocks band cy ++ blocks_of_row band cy n) all in
+    c.across.invariant ∙ ap (λ (ds : List Decision). narrowed_by whole ds) (row ∙ sym (bands_next band.layout (numbers_in band.parent) (numbers_in band.values) (marks_in band) cy))
 
 pub returns-clause-exact : goal.returns-clause-exact
 returns-clause-exact c =

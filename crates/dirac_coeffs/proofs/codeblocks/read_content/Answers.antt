@@ -1,12 +1,13 @@
-use Rattle.std.proofs.Common.{◌≡◌, ◌*◌, ◌≤◌, ◌∙◌, ℕ, ℤ, List, Result, Ok, Err, ap, arith, length, pos, refl, subst, sym}
+use Rattle.std.proofs.Common.{◌≡◌, ◌+◌, ◌*◌, ◌≤◌, ◌∙◌, ℕ, ℤ, List, Result, Ok, Err, ap, arith, length, pos, refl, subst, sym}
 use Rattle.std.proofs.lemmas.List.{length-replicate}
 use Rattle.dirac_common.specs.declared.faults.Cause.{Cause}
 use Rattle.dirac_arith.specs.Coded.{read_coded}
 use Rattle.dirac_arith.specs.Deciding.{begin}
 use Rattle.dirac_arith.specs.Reading.{Reading}
 use Rattle.dirac_arith.proofs.CodedValues.{repeated_none, repeated_next}
-use Rattle.dirac_coeffs.specs.BandRead.{Content, blocks_step, block_rows_step}
+use Rattle.dirac_coeffs.specs.BandRead.{Content, block_step, blocks_step, block_rows_step}
 use Rattle.dirac_coeffs.specs.Lent.{IsNarrow, content_in, numbers_in, values_in}
+use Rattle.dirac_coeffs.proofs.Edges.{edge_most, span_end}
 use Rattle.dirac_coeffs.proofs.Read.{content_filled}
 use Rattle.dirac_coeffs.proofs.Steps.{repeated_unread}
 use Rattle.dirac_coeffs.proofs.codeblocks.read_content.Goals as goal
@@ -25,31 +26,67 @@ down-init c =
       few_doublings = subst (λ (r : Reading). r.at.doublings ≤ 0) (sym c.new-decoder.ensures) (omega arith);
     }
 
-pub read_codeblocks-requires-clause-layout : goal.read_codeblocks-requires-clause-layout
-read_codeblocks-requires-clause-layout c = c.requires.layout
+pub across-init : goal.across-init
+across-init c =
+    record {
+      value =
+          record {
+            content = content_in c.down.filling;
+            reading = c.down.decoder;
+            rows = c.down.invariant.value;
+            row = repeated_none (block_step c.args.frame.layout (numbers_in c.args.frame.parent) c.args.frame.index c.down.cy) (content_in c.down.filling) c.down.decoder;
+          };
+      len = c.down.invariant.len;
+      narrow = c.down.invariant.narrow;
+      count = c.down.invariant.count;
+      few_doublings = omega (arith, c.down.invariant.few_doublings);
+    }
 
-pub read_codeblocks-requires-clause-row : goal.read_codeblocks-requires-clause-row
-read_codeblocks-requires-clause-row c = omega arith
+pub read_codeblock-requires-clause-block : goal.read_codeblock-requires-clause-block
+read_codeblock-requires-clause-block c = record { layout = c.requires.layout; row = omega arith; column = omega arith }
 
-pub read_codeblocks-requires-clause-len : goal.read_codeblocks-requires-clause-len
-read_codeblocks-requires-clause-len c = c.down.invariant.len
+pub read_codeblock-requires-clause-len : goal.read_codeblock-requires-clause-len
+read_codeblock-requires-clause-len c = c.across.invariant.len
 
-pub read_codeblocks-requires-clause-count : goal.read_codeblocks-requires-clause-count
-read_codeblocks-requires-clause-count c = c.down.invariant.count
+pub read_codeblock-requires-clause-count : goal.read_codeblock-requires-clause-count
+read_codeblock-requires-clause-count c = c.across.invariant.count
 
-pub read_codeblocks-requires-clause-no_overflow : goal.read_codeblocks-requires-clause-no_overflow
-read_codeblocks-requires-clause-no_overflow c = omega (arith, c.down.invariant.few_doublings, c.requires.layout.down)
+pub read_codeblock-requires-clause-no_overflow : goal.read_codeblock-requires-clause-no_overflow
+read_codeblock-requires-clause-no_overflow c =
+    omega (arith, c.across.invariant.few_doublings, c.requires.layout.down, c.requires.layout.width, c.requires.layout.across, edge_most c.args.frame.layout.width c.args.frame.layout.across c.across.cx (omega arith) (omega arith))
+
+pub across-preserved : goal.across-preserved
+across-preserved c =
+    let layout = c.args.frame.layout in
+    let v = c.across.invariant.value in
+    record {
+      value =
+          record {
+            content = v.content;
+            reading = v.reading;
+            rows = v.rows;
+            row = repeated_next (block_step layout (numbers_in c.args.frame.parent) c.args.frame.index c.down.cy) c.across.cx v.content v.reading (content_in c.across.filling) c.across.decoder _ v.row c.in-Ok.ensures.value;
+          };
+      len = c.read_codeblock.ensures.len ∙ c.across.invariant.len;
+      narrow = λ n. c.across.invariant.narrow (c.read_codeblock.ensures.narrow n);
+      count = c.read_codeblock.ensures.count ∙ c.across.invariant.count;
+      few_doublings = omega (arith, c.read_codeblock.ensures.few_doublings, c.across.invariant.few_doublings, span_end layout.width layout.across c.across.cx (omega arith));
+    }
 
 pub down-preserved : goal.down-preserved
 down-preserved c =
     let layout = c.args.frame.layout in
+    let parent = numbers_in c.args.frame.parent in
+    let index = c.args.frame.index in
+    let v = c.across.invariant.value in
+    let all : c.across.cx ≡ layout.across = omega (arith, c.across.auto.cx-end) in
+    let row = subst (λ (n : ℕ). read_coded (blocks_step layout parent index c.down.cy n v.content) v.reading ≡ Ok (content_in c.across.filling, c.across.decoder)) all v.row in
     record {
-      value =
-          repeated_next (λ cy. blocks_step layout (numbers_in c.args.frame.parent) c.args.frame.index cy layout.across) c.down.cy (content_in c.args.filling.now) (begin c.args.block.now) (content_in c.down.filling) c.down.decoder _ c.down.invariant.value c.in-Ok.ensures.value;
-      len = c.read_codeblocks.ensures.len ∙ c.down.invariant.len;
-      narrow = λ n. c.down.invariant.narrow (c.read_codeblocks.ensures.narrow n);
-      count = c.read_codeblocks.ensures.count ∙ c.down.invariant.count;
-      few_doublings = omega (arith, c.read_codeblocks.ensures.few_doublings, c.down.invariant.few_doublings);
+      value = repeated_next (λ cy. blocks_step layout parent index cy layout.across) c.down.cy (content_in c.args.filling.now) (begin c.args.block.now) v.content v.reading _ v.rows row;
+      len = c.across.invariant.len;
+      narrow = c.across.invariant.narrow;
+      count = c.across.invariant.count;
+      few_doublings = omega (arith, c.across.invariant.few_doublings, c.requires.layout.width, c.requires.layout.across, edge_most layout.width layout.across c.across.cx (omega arith) (omega arith));
     }
 
 pub returns-clause-value : goal.returns-clause-value
@@ -72,14 +109,17 @@ pub returns-in-Err-clause-value : goal.returns-in-Err-clause-value
 returns-in-Err-clause-value c =
     let layout = c.args.frame.layout in
     let parent = numbers_in c.args.frame.parent in
+    let index = c.args.frame.index in
     let block = c.args.block.now in
-    let narrow = IsNarrow c.read_codeblocks.new.filling.values in
-    let stops = repeated_unread narrow (λ cy. blocks_step layout parent c.args.frame.index cy layout.across) c.down.cy layout.down (content_in c.args.filling.now) (begin block) (content_in c.down.filling) c.down.decoder c.in-Err.unread (omega arith) c.down.invariant.value c.in-Err.ensures.value in
-    content_filled {A = ℕ} narrow (Err c.in-Err.unread) layout parent c.args.frame.index block (values_in c.args.filling.now.values) c.args.filling.now.indices (begin block) c.read_codeblocks.new.decoder (content_in c.read_codeblocks.new.filling)
+    let v = c.across.invariant.value in
+    let narrow = IsNarrow c.read_codeblock.new.filling.values in
+    let row = repeated_unread narrow (block_step layout parent index c.down.cy) c.across.cx layout.across v.content v.reading (content_in c.across.filling) c.across.decoder c.in-Err.unread (omega arith) v.row c.in-Err.ensures.value in
+    let stops = repeated_unread narrow (λ cy. blocks_step layout parent index cy layout.across) c.down.cy layout.down (content_in c.args.filling.now) (begin block) v.content v.reading c.in-Err.unread (omega arith) v.rows row in
+    content_filled {A = ℕ} narrow (Err c.in-Err.unread) layout parent index block (values_in c.args.filling.now.values) c.args.filling.now.indices (begin block) c.read_codeblock.new.decoder (content_in c.read_codeblock.new.filling)
     c.requires.layout c.requires.zeros c.requires.equal refl stops
 
 pub returns-in-Err-clause-len : goal.returns-in-Err-clause-len
-returns-in-Err-clause-len c = c.read_codeblocks.ensures.len ∙ c.down.invariant.len
+returns-in-Err-clause-len c = c.read_codeblock.ensures.len ∙ c.across.invariant.len
 
 pub returns-in-Err-clause-narrow : goal.returns-in-Err-clause-narrow
-returns-in-Err-clause-narrow c = λ n. c.down.invariant.narrow (c.read_codeblocks.ensures.narrow n)
+returns-in-Err-clause-narrow c = λ n. c.across.invariant.narrow (c.read_codeblock.ensures.narrow n)
