@@ -10,7 +10,7 @@ use Rattle.dirac_arith.specs.Deciding.{number_read}
 use Rattle.dirac_arith.specs.Reading.{Reading}
 use Rattle.dirac_blocks.specs.declared.parts.ListKind.{ListKind}
 use Rattle.dirac_blocks.specs.Decisions.{UnitPart, predicted_split, superblock_part, unit_rows}
-use Rattle.dirac_blocks.specs.Grammar.{TableStep, empty_table, split_step, superblock_step, unit_coded, unit_read_step, unit_rows_step, with_split, with_unit}
+use Rattle.dirac_blocks.specs.Grammar.{TableStep, empty_table, split_step, superblock_step, unit_coded, unit_read_step, unit_row_step, unit_rows_step, with_split, with_unit}
 use Rattle.dirac_blocks.specs.Reached.{AllGrey, IsFirstOfUnit, SameBlocks, SameShape, SameSize}
 use Rattle.dirac_block_table.specs.declared.block.Block.{Block}
 use Rattle.dirac_block_table.specs.Tables.{BlockTable, grey, split_at, unit_size}
@@ -146,3 +146,10 @@ empty_grey across down refs k =
       | inl inside ↦ get_or-replicate count k grey grey inside
       | inr past ↦ get_or_past (replicate count grey) k grey (omega (arith, length-replicate count grey))
     ]
+
+-- how far a superblock is read in row v of its units: to the first u of them, behind all rows before it
+pub record UnitsReached (part : ListKind) (size across i j : ℕ) (old : BlockTable) (start : Reading) (v u : ℕ) (t : BlockTable) (r : Reading) : Type 0 where
+  pub table : BlockTable
+  pub reading : Reading
+  pub rows : read_coded (unit_rows_step part size across i j v old) start ≡ Ok (table, reading)
+  pub row : read_coded (unit_row_step part size i (j + v * size) u table) reading ≡ Ok (t, r)
