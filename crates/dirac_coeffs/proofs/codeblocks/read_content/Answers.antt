@@ -1,4 +1,4 @@
-use Rattle.std.proofs.Common.{◌≡◌, ◌+◌, ◌*◌, ◌≤◌, ◌∙◌, ℕ, ℤ, List, Result, Ok, Err, ap, arith, length, pos, refl, subst, sym}
+use Rattle.std.proofs.Common.{◌≡◌, ◌*◌, ◌≤◌, ◌∙◌, ℕ, ℤ, List, Result, Ok, Err, ap, arith, length, pos, refl, subst, sym}
 use Rattle.std.proofs.lemmas.List.{length-replicate}
 use Rattle.dirac_common.specs.declared.faults.Cause.{Cause}
 use Rattle.dirac_arith.specs.Coded.{read_coded}
