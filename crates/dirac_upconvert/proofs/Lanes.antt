@@ -1,6 +1,6 @@
 -- Rows that are written a few samples at a time.
-use Rattle.std.proofs.Common.{◌≡◌, ◌≢◌, ℕ, ℤ, pos, suc, ◌+◌, ◌-◌, ◌*◌, ◌/◌, ◌%◌, ◌^◌, ◌<◌, ◌≤◌, ◌+ℤ◌, List, length, get_or, set, take, to_z, of_z, arith, refl, inl, inr, ap, sym, ◌∙◌}
-use Rattle.std.specs.Int.{w16}
+use Rattle.std.proofs.Common.{◌≡◌, ◌≢◌, ℕ, ℤ, pos, suc, ◌+◌, ◌-◌, ◌*◌, ◌/◌, ◌%◌, ◌^◌, ◌<◌, ◌≤◌, ◌+ℤ◌, List, length, get_or, set, take, to_z, of_z, arith, refl, inl, inr, ap, ap₂, sym, unsigned_abs, ◌∙◌}
+use Rattle.std.specs.Int.{w16, w64}
 use Rattle.std.specs.List.{slice_range}
 use Rattle.std.proofs.lemmas.Bool.{cases_eq, cases_lt}
 use Rattle.std.proofs.lemmas.Int.{ints, to_z-of_z, fits_signed_from_abs}
@@ -12,6 +12,9 @@ use Rattle.std.proofs.Math.Nat.{suc-mul}
 use Rattle.std.proofs.Math.Pow.{pow_mono}
 use borrow.Rule.Slice.PartMut.{put_mid}
 use Rattle.dirac_common.specs.Table.{Table}
+use Rattle.dirac_upconvert.specs.declared.rows.Position.{Position}
+use Rattle.dirac_upconvert.specs.declared.rows.Rests.{Rests}
+use Rattle.dirac_upconvert.specs.Positions.{AreSamplesFrom, sample_from}
 use Rattle.dirac_upconvert.specs.SubSamples.{IsRest, PutFrom, bilinear, rounded}
 
 -- a rest, through its bits
@@ -58,19 +61,6 @@ part_read xs i j k p inside e = get_or-between xs i j k (pos 0) inside ∙ ap (�
 pub part_length : (xs : List ℤ) (i j : ℕ) → j ≤ length xs → length (slice_range xs i j) ≡ j - i
 part_length xs i j fits = length-between xs i j fits
 
--- four rows of eight, one behind another
-abbrev pub row_by_row : Table → ℕ → ℤ → ℤ → ℤ → ℤ → ℕ → ℤ
-row_by_row t bits across down right below n =
-    rounded (2 * bits) (bilinear t (2 ^ bits) (across +ℤ pos (2 * (n % 8))) (down +ℤ pos (2 * (n / 8))) right below)
-
-pub row_by_row_at : (t : Table) (bits : ℕ) (across down right below : ℤ) (j k : ℕ) → k < 8
-    → row_by_row t bits across down right below (8 * j + k) ≡ rounded (2 * bits) (bilinear t (2 ^ bits) (across +ℤ pos (2 * k)) (down +ℤ pos (2 * j)) right below)
-row_by_row_at t bits across down right below j k l =
-    let column : (8 * j + k) % 8 ≡ k = omega arith in
-    let row : (8 * j + k) / 8 ≡ j = omega arith in
-    let f : ℕ → ℕ → ℤ = λ a b. rounded (2 * bits) (bilinear t (2 ^ bits) (across +ℤ pos (2 * a)) (down +ℤ pos (2 * b)) right below) in
-    ap (λ a. f a ((8 * j + k) / 8)) column ∙ ap (f k) row
-
 -- a list of which a part is written over: before that part, and in it
 pub part_before : (a k n : ℕ) (xs ws : List ℤ) → n < a → a ≤ length xs → get_or (put_mid a k xs ws) n (pos 0) ≡ get_or xs n (pos 0)
 part_before a k n xs ws l fits =
@@ -86,15 +76,24 @@ part_inside a k n xs ws l fits =
     ∙ ap (λ i. get_or ws i (pos 0)) same
 
 -- rows of so many samples, one behind another
-abbrev pub by_rows : Table → ℕ → ℤ → ℤ → ℤ → ℤ → ℕ → ℕ → ℤ
-by_rows t bits across down right below width n =
-    rounded (2 * bits) (bilinear t (2 ^ bits) (across +ℤ pos (2 * (n % width))) (down +ℤ pos (2 * (n / width))) right below)
+abbrev pub by_rows : Table → Position → ℕ → ℕ → ℤ
+by_rows t p width n = sample_from t p (n % width) (n / width)
 
-pub by_rows_at : (t : Table) (bits : ℕ) (across down right below : ℤ) (width j k : ℕ) → k < width
-    → by_rows t bits across down right below width (j * width + k) ≡ rounded (2 * bits) (bilinear t (2 ^ bits) (across +ℤ pos (2 * k)) (down +ℤ pos (2 * j)) right below)
-by_rows_at t bits across down right below width j k l =
-    let f : ℕ → ℕ → ℤ = λ a b. rounded (2 * bits) (bilinear t (2 ^ bits) (across +ℤ pos (2 * a)) (down +ℤ pos (2 * b)) right below) in
-    ap (λ a. f a ((j * width + k) / width)) (mod-mul-add j width k l) ∙ ap (f k) (div-mul-add j width k l)
+pub by_rows_at : (t : Table) (p : Position) (width j k : ℕ) → k < width → by_rows t p width (j * width + k) ≡ sample_from t p k j
+by_rows_at t p width j k l =
+    ap (λ a. sample_from t p a ((j * width + k) / width)) (mod-mul-add j width k l) ∙ ap (sample_from t p k) (div-mul-add j width k l)
+
+-- the samples of a row below
+pub row_below : (t : Table) (p q : Position) (j : ℕ) (out : List ℤ) → q.rests ≡ p.rests → q.across ≡ p.across → q.down ≡ p.down +ℤ pos (2 * j) → AreSamplesFrom t q out
+    → (k : ℕ) → k < length out → get_or out k (pos 0) ≡ sample_from t p k j
+row_below t p q j out er ea ed h k l =
+    h k l
+    ∙ ap (λ (r : Rests). rounded (2 * r.bits) (bilinear t (2 ^ r.bits) (q.across +ℤ pos (2 * k)) q.down r.right r.below)) er
+    ∙ ap₂ (λ (a b : ℤ). rounded (2 * p.rests.bits) (bilinear t (2 ^ p.rests.bits) (a +ℤ pos (2 * k)) b p.rests.right p.rests.below)) ea ed
+
+-- a place, through its bits
+pub plain_place : (z : ℤ) → unsigned_abs z ≤ 2 ^ 35 → to_z w64 (of_z w64 z) ≡ z
+plain_place z h = to_z-of_z w64 z (fits_signed_from_abs w64 z (omega (arith, h)))
 
 -- one more row is written
 pub rows_joined : (width j m a k : ℕ) (g : ℕ → ℤ) (xs ws : List ℤ) → ((n : ℕ) → n < j * width → get_or xs n (pos 0) ≡ g n) → a ≡ j * width → length ws ≡ width → a + width ≤ length xs → m ≡ suc j

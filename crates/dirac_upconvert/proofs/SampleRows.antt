@@ -6,7 +6,9 @@ use Rattle.std.proofs.lemmas.Int.{ints}
 use Rattle.std.proofs.lemmas.Nat.{pow_pos}
 use Rattle.dirac_common.specs.Table.{Table, clamped_at}
 use Rattle.dirac_upconvert.specs.HalfSamples.{IsSample}
-use Rattle.dirac_upconvert.specs.SubSamples.{AreAlternateSubSamples, ArePartsByFour, ArePartsByRows, AreAlternateSamples, IsRest, IsWithin, Up, bilinear, part_sample, place_at, rest_at, rounded, sub_sample}
+use Rattle.dirac_upconvert.specs.declared.rows.Position.{Position}
+use Rattle.dirac_upconvert.specs.Positions.{sample_from}
+use Rattle.dirac_upconvert.specs.SubSamples.{IsRest, IsWithin, Up, bilinear, part_sample, place_at, rest_at, rounded, sub_sample}
 use Rattle.dirac_upconvert.proofs.Halves.{all_samples, clamped_sample}
 use Rattle.dirac_upconvert.proofs.PartRows.{four_at_place, part_more, place_more, rest_more}
 use Rattle.dirac_upconvert.proofs.Mixing.{four_products, mixed_within, remainder_is, remainder_rest, rounded_sample, sample_within}
@@ -33,23 +35,6 @@ sub_sample_is up precision x y few h = elim (cases_eq precision 0) [
   | inl whole ↦ rw (eq-eqb precision 0 whole) (clamped_sample up.table (clamped_at up.table (pos 2 *ℤ x) (pos 2 *ℤ y)) (pos 2 *ℤ x) (pos 2 *ℤ y) h refl)
   | inr part ↦ rw (ne_eqb precision 0 part) (part_is_sample up.table (precision - 1) x y (omega arith) h)
 ]
-
--- rows of places and of parts are rows of samples
-pub row_of_places : (up : Up) (precision : ℕ) (x y : ℤ) (out : List ℤ) → precision ≡ 0 → AreAlternateSamples up.table (pos 2 *ℤ x) (pos 2 *ℤ y) out
-    → (k : ℕ) → k < length out → get_or out k (pos 0) ≡ sub_sample up precision (x +ℤ pos (2 ^ precision * k)) y
-row_of_places up precision x y out e h k l =
-    subst (λ (q : ℕ). get_or out k (pos 0) ≡ sub_sample up q (x +ℤ pos (2 ^ q * k)) y) (sym e)
-    (h k l ∙ ap (λ p. clamped_at up.table p (pos 2 *ℤ y)) (twice_more x k))
-  where
-    twice_more : (p : ℤ) (n : ℕ) → pos 2 *ℤ p +ℤ pos (2 * n) ≡ pos 2 *ℤ (p +ℤ pos (2 ^ 0 * n))
-    twice_more p n = omega (arith, ints)
-
-pub row_of_parts : (up : Up) (precision bits : ℕ) (x y : ℤ) (out : List ℤ) → bits ≤ 2 → precision ≡ bits + 1 → AreAlternateSubSamples up.table bits (place_at x bits) (place_at y bits) (rest_at x bits) (rest_at y bits) out
-    → (k : ℕ) → k < length out → get_or out k (pos 0) ≡ sub_sample up precision (x +ℤ pos (2 ^ precision * k)) y
-row_of_parts up precision bits x y out few e h k l =
-    let less : precision - 1 ≡ bits = omega arith in
-    rw (ne_eqb precision 0 (omega arith), less)
-    (h k l ∙ part_more up.table bits k x y (x +ℤ pos (2 ^ precision * k)) few (ap (λ q. x +ℤ pos (2 ^ q * k)) e))
 
 -- all its values are samples
 pub row_samples : (up : Up) (precision : ℕ) (x y : ℤ) (out : List ℤ) → precision ≤ 3 → All IsSample up.table.values → ((k : ℕ) → k < length out → get_or out k (pos 0) ≡ sub_sample up precision (x +ℤ pos (2 ^ precision * k)) y)
@@ -80,23 +65,14 @@ sample_of_part up precision bits x y j k small e =
     ∙ ap (λ r. rounded (2 * bits) (bilinear up.table (2 ^ bits) (place_at x bits +ℤ pos (2 * k)) (place_at z bits) (rest_at x bits) r)) (sym (rest_more y z bits j small below))
     ∙ part_more up.table bits k x z (x +ℤ pos (2 ^ precision * k)) small (ap (λ q. x +ℤ pos (2 ^ q * k)) e))
 
--- four rows of eight are rows of samples
-pub four_rows_of_places : (up : Up) (precision : ℕ) (x y : ℤ) (out : List ℤ) → precision ≡ 0 → ArePartsByFour up.table 0 (pos 2 *ℤ x) (pos 2 *ℤ y) (pos 0) (pos 0) out
-    → (j k : ℕ) → j < 4 → k < 8 → get_or out (8 * j + k) (pos 0) ≡ sub_sample up precision (x +ℤ pos (2 ^ precision * k)) (y +ℤ pos (2 ^ precision * j))
-four_rows_of_places up precision x y out e h j k few l = h j k few l ∙ sample_of_place up precision x y j k e
+-- the samples from a position on, of which its places and its rests are told
+pub from_place : (up : Up) (precision : ℕ) (x y : ℤ) (p : Position) (j k : ℕ) → precision ≡ 0 → p.rests.bits ≡ 0 → p.rests.right ≡ pos 0 → p.rests.below ≡ pos 0 → p.across ≡ pos 2 *ℤ x → p.down ≡ pos 2 *ℤ y
+    → sample_from up.table p k j ≡ sub_sample up precision (x +ℤ pos (2 ^ precision * k)) (y +ℤ pos (2 ^ precision * j))
+from_place up precision x y p j k e bits right below across down = rw (bits, right, below, across, down) (sample_of_place up precision x y j k e)
 
-pub four_rows_of_parts : (up : Up) (precision bits : ℕ) (x y : ℤ) (out : List ℤ) → bits ≤ 2 → precision ≡ bits + 1 → ArePartsByFour up.table bits (place_at x bits) (place_at y bits) (rest_at x bits) (rest_at y bits) out
-    → (j k : ℕ) → j < 4 → k < 8 → get_or out (8 * j + k) (pos 0) ≡ sub_sample up precision (x +ℤ pos (2 ^ precision * k)) (y +ℤ pos (2 ^ precision * j))
-four_rows_of_parts up precision bits x y out small e h j k few l = h j k few l ∙ sample_of_part up precision bits x y j k small e
-
--- rows of any width are rows of samples
-pub rows_of_places : (up : Up) (precision : ℕ) (x y : ℤ) (width : ℕ) (out : List ℤ) → precision ≡ 0 → ArePartsByRows up.table 0 (pos 2 *ℤ x) (pos 2 *ℤ y) (pos 0) (pos 0) width out
-    → (n : ℕ) → n < length out → get_or out n (pos 0) ≡ sub_sample up precision (x +ℤ pos (2 ^ precision * (n % width))) (y +ℤ pos (2 ^ precision * (n / width)))
-rows_of_places up precision x y width out e h n l = h n l ∙ sample_of_place up precision x y (n / width) (n % width) e
-
-pub rows_of_parts : (up : Up) (precision bits : ℕ) (x y : ℤ) (width : ℕ) (out : List ℤ) → bits ≤ 2 → precision ≡ bits + 1 → ArePartsByRows up.table bits (place_at x bits) (place_at y bits) (rest_at x bits) (rest_at y bits) width out
-    → (n : ℕ) → n < length out → get_or out n (pos 0) ≡ sub_sample up precision (x +ℤ pos (2 ^ precision * (n % width))) (y +ℤ pos (2 ^ precision * (n / width)))
-rows_of_parts up precision bits x y width out small e h n l = h n l ∙ sample_of_part up precision bits x y (n / width) (n % width) small e
+pub from_part : (up : Up) (precision bits : ℕ) (x y : ℤ) (p : Position) (j k : ℕ) → bits ≤ 2 → precision ≡ bits + 1 → p.rests.bits ≡ bits → p.rests.right ≡ rest_at x bits → p.rests.below ≡ rest_at y bits → p.across ≡ place_at x bits → p.down ≡ place_at y bits
+    → sample_from up.table p k j ≡ sub_sample up precision (x +ℤ pos (2 ^ precision * k)) (y +ℤ pos (2 ^ precision * j))
+from_part up precision bits x y p j k small e eb right below across down = rw (eb, right, below, across, down) (sample_of_part up precision bits x y j k small e)
 
 pub rows_samples : (up : Up) (precision : ℕ) (x y : ℤ) (width : ℕ) (out : List ℤ) → precision ≤ 3 → All IsSample up.table.values
     → ((n : ℕ) → n < length out → get_or out n (pos 0) ≡ sub_sample up precision (x +ℤ pos (2 ^ precision * (n % width))) (y +ℤ pos (2 ^ precision * (n / width)))) → All IsSample out

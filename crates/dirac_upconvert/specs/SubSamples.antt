@@ -1,5 +1,5 @@
 -- Samples at positions counted in parts of a sample.
-use Rattle.std.specs.Prelude.{◌≡◌, ℕ, ℤ, pos, ◌+◌, ◌-◌, ◌*◌, ◌/◌, ◌%◌, ◌^◌, ◌<◌, ◌≤◌, ◌==◌, List, length}
+use Rattle.std.specs.Prelude.{◌≡◌, ℕ, ℤ, pos, ◌+◌, ◌-◌, ◌*◌, ◌/◌, ◌^◌, ◌<◌, ◌≤◌, ◌==◌, List, length}
 use Rattle.std.specs.Prelude.{slice_index_or, ◌≤ℤ◌, ◌<ℤ◌, ◌+ℤ◌, ◌-ℤ◌, ◌*ℤ◌, if◌then◌else◌}
 use Rattle.std.specs.Int.{int_shr}
 use Rattle.std.specs.List.{All}
@@ -102,15 +102,3 @@ between_sides bits right below above under p q =
 pub record PutFrom (first count : ℕ) (f : ℕ → ℤ) (before after : List ℤ) : Type 0 where
   pub value : (k : ℕ) → k < count → slice_index_or after (first + k) (pos 0) ≡ f k
   pub kept : (k : ℕ) → k < first → slice_index_or after k (pos 0) ≡ slice_index_or before k (pos 0)
-
--- the samples behind every second place of every second row, eight in each of four rows
-abbrev pub ArePartsByFour : Table → ℕ → ℤ → ℤ → ℤ → ℤ → List ℤ → Type 0
-ArePartsByFour t bits across down right below out =
-    (j k : ℕ) → j < 4 → k < 8 → slice_index_or out (8 * j + k) (pos 0) ≡ rounded (2 * bits)
-    (bilinear t (2 ^ bits) (across +ℤ pos (2 * k)) (down +ℤ pos (2 * j)) right below)
-
--- the samples behind every second place of every second row, row after row, that many in each row
-abbrev pub ArePartsByRows : Table → ℕ → ℤ → ℤ → ℤ → ℤ → ℕ → List ℤ → Type 0
-ArePartsByRows t bits across down right below width out =
-    (n : ℕ) → n < length out → slice_index_or out n (pos 0) ≡ rounded (2 * bits)
-    (bilinear t (2 ^ bits) (across +ℤ pos (2 * (n % width))) (down +ℤ pos (2 * (n / width))) right below)

@@ -1,6 +1,5 @@
 ghost use Rattle.std.specs.Prelude.{◌≡◌, ℕ, pos, ◌+◌, ◌*◌, ◌^◌, ◌<◌, ◌≤◌, ◌≤ℤ◌, ◌+ℤ◌, ◌*ℤ◌, unsigned_abs};
 ghost use Rattle.std.specs.Int.{int_rem_euclid};
-ghost use Rattle.std.specs.List.{All};
 ghost use Rattle.dirac_common.specs.Table.{clamped_at};
 ghost use Rattle.dirac_upconvert.specs.HalfSamples.{IsSample};
 ghost use Rattle.dirac_upconvert.specs.SubSamples.{IsRest, IsWithin, bilinear, mixed, part_sample, place_at, rest_at};
@@ -79,7 +78,6 @@ pub fn rounded_sum(sum: i16, bits: u32) -> i16
 /// The sample at a place that is clamped to the table.
 #[inline(always)]
 pub fn sample(table: &Phases, x: i64, y: i64) -> i16
-    requires { All IsSample table.now.values }
     ensures value { result ≡ clamped_at table.now x y }
     ensures sample { IsSample result }
 {
@@ -100,7 +98,6 @@ fn mixed_row(table: &Phases, bits: u32, right: i16, across: i64, y: i64) -> i16
     requires bits { bits ≤ 2 }
     requires right { IsRest bits right }
     requires across { unsigned_abs across ≤ 2 ^ 34 }
-    requires samples { All IsSample table.now.values }
     ensures value { result ≡ mixed (2 ^ bits) right (clamped_at table.now across y)
         (clamped_at table.now (across +ℤ pos 1) y) }
     ensures within { IsWithin (2 ^ bits * 1) result }
@@ -119,7 +116,6 @@ fn mixed_rows(table: &Phases, bits: u32, x: i64, y: i64) -> i16
     requires bits { bits ≤ 2 }
     requires x { unsigned_abs x < 2 ^ 34 }
     requires y { unsigned_abs y < 2 ^ 34 }
-    requires samples { All IsSample table.now.values }
     ensures value { result ≡ bilinear table.now (2 ^ bits) (place_at x bits) (place_at y bits) (rest_at x bits)
         (rest_at y bits) }
     ensures within { IsWithin (2 ^ bits * (2 ^ bits * 1)) result }
@@ -138,7 +134,6 @@ pub fn part(table: &Phases, bits: u32, x: i64, y: i64) -> i16
     requires bits { bits ≤ 2 }
     requires x { unsigned_abs x < 2 ^ 34 }
     requires y { unsigned_abs y < 2 ^ 34 }
-    requires samples { All IsSample table.now.values }
     ensures value { result ≡ part_sample table.now bits x y }
     ensures sample { IsSample result }
 {
@@ -158,7 +153,6 @@ pub fn twice(position: i64) -> i64
 pub fn whole_sample(table: &Phases, x: i64, y: i64) -> i16
     requires x { unsigned_abs x < 2 ^ 34 }
     requires y { unsigned_abs y < 2 ^ 34 }
-    requires samples { All IsSample table.now.values }
     ensures value { result ≡ clamped_at table.now (pos 2 *ℤ x) (pos 2 *ℤ y) }
     ensures sample { IsSample result }
 {

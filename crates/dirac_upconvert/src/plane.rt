@@ -1,17 +1,17 @@
-ghost use Rattle.std.specs.Prelude.{◌≡◌, ℕ, ℤ, pos, ◌+◌, ◌-◌, ◌*◌, ◌/◌, ◌%◌, ◌^◌, ◌<◌, ◌≤◌, ◌+ℤ◌, unsigned_abs, length};
+ghost use Rattle.std.specs.Prelude.{◌≡◌, ℕ, ℤ, pos, ◌+◌, ◌-◌, ◌*◌, ◌/◌, ◌%◌, ◌^◌, ◌<◌, ◌≤◌, ◌+ℤ◌, ◌*ℤ◌, unsigned_abs, length};
 ghost use Rattle.std.specs.Prelude.{slice_index_or, IfOk};
 ghost use Rattle.std.specs.List.{All};
 ghost use Rattle.dirac_common.specs.Table.{clamped_at, table_at};
 ghost use Rattle.dirac_upconvert.specs.HalfSamples.{IsSample, half, half_at, half_behind};
 ghost use Rattle.dirac_upconvert.specs.Phases.{phase_at, place_in_row};
-ghost use Rattle.dirac_upconvert.specs.Rests.{AreRests};
-ghost use Rattle.dirac_upconvert.specs.SubSamples.{ArePartsByFour, IsUp, Up, sub_sample};
+ghost use Rattle.dirac_upconvert.specs.Positions.{AreSamplesByFour, IsNear, sample_from};
+ghost use Rattle.dirac_upconvert.specs.SubSamples.{IsUp, Up, place_at, rest_at, sub_sample};
 
 use crate::half_sample::Around;
 use crate::lines::{double_line, half_of_rows};
-use crate::parts::{part, place, twice, whole_sample};
+use crate::parts::{part, place, rest, twice, whole_sample};
 use crate::phases::Phases;
-use crate::rows::{Rests, ahead, parts, places, put, rests_of, row_parts, rows_of_parts};
+use crate::rows::{Position, Rests, lower, put, row_parts, rows_of_parts};
 use dirac_common::{LARGEST_SIDE, NoMemory, Plane};
 use std::alloc::Global;
 use std::marker::Model;
@@ -133,20 +133,82 @@ pub fn upconvert(alloc: Global, plane: &Plane) -> Result<UpPlane, NoMemory>
     })
 }
 
-/// Writes the samples behind every second place of every second row, from place `across` of row `down` on: four rows
-/// of eight.
-fn eight_by_four(table: &Phases, rests: Rests, across: i64, down: i64, out: &mut [i16])
-    requires samples { All IsSample table.now.values }
-    requires rests { AreRests rests }
-    requires across { unsigned_abs across ≤ 2 ^ 34 }
-    requires down { unsigned_abs down ≤ 2 ^ 34 }
+/// Writes the samples from a position on, two columns and two rows apart: four rows of eight.
+fn eight_by_four(table: &Phases, from: Position, out: &mut [i16])
+    requires from { IsNear (2 ^ 33) (2 ^ 34) from }
     requires four_rows_of_eight { length out.old ≡ 32 }
-    ensures { ArePartsByFour table.now rests.bits across down rests.right rests.below out.new }
+    ensures { AreSamplesByFour table.now from out.new }
 {
     for j in 0..4 {
         let mut lanes = [0i16; 8];
-        row_parts(table, rests, across, ahead(down, j), &mut lanes);
+        row_parts(table, lower(from, j), &mut lanes);
         put(&lanes, out, 8 * j);
+    }
+}
+
+/// The position of the whole sample at column `x` and row `y`.
+#[inline(always)]
+fn whole_position(x: i64, y: i64) -> Position
+    requires x { unsigned_abs x < 2 ^ 31 }
+    requires y { unsigned_abs y < 2 ^ 32 }
+    ensures near { IsNear (2 ^ 33) (2 ^ 34) result }
+    ensures bits { result.rests.bits ≡ 0 }
+    ensures right { result.rests.right ≡ pos 0 }
+    ensures below { result.rests.below ≡ pos 0 }
+    ensures across { result.across ≡ pos 2 *ℤ x }
+    ensures down { result.down ≡ pos 2 *ℤ y }
+{
+    let rests = Rests {
+        bits: 0,
+        right: 0,
+        below: 0,
+    };
+    Position {
+        rests,
+        across: twice(x),
+        down: twice(y),
+    }
+}
+
+/// The position at column `x` and row `y`, both counted in parts, 2 to the power `bits` to a place.
+#[inline(always)]
+fn part_position(bits: u32, x: i64, y: i64) -> Position
+    requires bits { bits ≤ 2 }
+    requires x { unsigned_abs x < 2 ^ 31 }
+    requires y { unsigned_abs y < 2 ^ 32 }
+    ensures near { IsNear (2 ^ 33) (2 ^ 34) result }
+    ensures bits { result.rests.bits ≡ bits }
+    ensures right { result.rests.right ≡ rest_at x bits }
+    ensures below { result.rests.below ≡ rest_at y bits }
+    ensures across { result.across ≡ place_at x bits }
+    ensures down { result.down ≡ place_at y bits }
+{
+    let rests = Rests {
+        bits,
+        right: rest(x, bits),
+        below: rest(y, bits),
+    };
+    Position {
+        rests,
+        across: place(x, bits),
+        down: place(y, bits),
+    }
+}
+
+/// The position of the table at column `x` and row `y`, both counted in 2 to the power `precision` parts of a sample.
+#[inline(always)]
+fn position_of(precision: u8, x: i64, y: i64) -> Position
+    requires precision { precision ≤ 3 }
+    requires x { unsigned_abs x < 2 ^ 31 }
+    requires y { unsigned_abs y < 2 ^ 32 }
+    ensures near { IsNear (2 ^ 33) (2 ^ 34) result }
+    ensures samples { (u : Up) (j k : ℕ) → sample_from u.table result k j
+        ≡ sub_sample u precision (x +ℤ pos (2 ^ precision * k)) (y +ℤ pos (2 ^ precision * j)) }
+{
+    if precision == 0 {
+        whole_position(x, y)
+    } else {
+        part_position(u32::from(precision) - 1, x, y)
     }
 }
 
@@ -194,11 +256,7 @@ impl UpPlane {
             ≡ sub_sample self.now precision (x +ℤ pos (2 ^ precision * k)) y }
         ensures samples { All IsSample out.new }
     {
-        if precision == 0 {
-            places(&self.table, twice(x), twice(y), out);
-        } else {
-            parts(&self.table, u32::from(precision) - 1, x, y, out);
-        }
+        row_parts(&self.table, position_of(precision, x, y), out);
     }
 
     /// Writes the samples of rows of `width`, row after row, from column `x` of row `y` on, a whole sample apart; both
@@ -215,24 +273,7 @@ impl UpPlane {
             * (n / width))) }
         ensures samples { All IsSample out.new }
     {
-        if precision == 0 {
-            let rests = Rests {
-                bits: 0,
-                right: 0,
-                below: 0,
-            };
-            rows_of_parts(&self.table, rests, twice(x), twice(y), width, out);
-        } else {
-            let bits = u32::from(precision) - 1;
-            rows_of_parts(
-                &self.table,
-                rests_of(bits, x, y),
-                place(x, bits),
-                place(y, bits),
-                width,
-                out,
-            );
-        }
+        rows_of_parts(&self.table, position_of(precision, x, y), width, out);
     }
 
     /// Writes the samples of four rows of eight, row after row, from column `x` of row `y` on, a whole sample apart;
@@ -245,22 +286,6 @@ impl UpPlane {
         ensures value { (j k : ℕ) → j < 4 → k < 8 → slice_index_or out.new (8 * j + k) (pos 0)
             ≡ sub_sample self.now precision (x +ℤ pos (2 ^ precision * k)) (y +ℤ pos (2 ^ precision * j)) }
     {
-        if precision == 0 {
-            let rests = Rests {
-                bits: 0,
-                right: 0,
-                below: 0,
-            };
-            eight_by_four(&self.table, rests, twice(x), twice(y), out);
-        } else {
-            let bits = u32::from(precision) - 1;
-            eight_by_four(
-                &self.table,
-                rests_of(bits, x, y),
-                place(x, bits),
-                place(y, bits),
-                out,
-            );
-        }
+        eight_by_four(&self.table, position_of(precision, x, y), out);
     }
 }

@@ -1,16 +1,15 @@
 ghost use Rattle.std.specs.Prelude.{◌≡◌, ℕ, pos, ◌+◌, ◌-◌, ◌*◌, ◌/◌, ◌%◌, ◌^◌, ◌<◌, ◌≤◌, ◌+ℤ◌, ◌≤ℤ◌, IsTrue};
 ghost use Rattle.std.specs.Prelude.{unsigned_abs};
 ghost use Rattle.std.specs.Prelude.{length, slice_index_or};
-ghost use Rattle.std.specs.List.{All};
 ghost use Rattle.dirac_upconvert.specs.HalfSamples.{IsSample};
 ghost use Rattle.dirac_upconvert.specs.Phases.{place_in_row};
+ghost use Rattle.dirac_upconvert.specs.Positions.{AreInside, AreSamplesByRows, AreSamplesFrom, AreWholeRows};
+ghost use Rattle.dirac_upconvert.specs.Positions.{IsNear, sample_from};
 ghost use Rattle.dirac_upconvert.specs.Rests.{AreRests};
-ghost use Rattle.dirac_upconvert.specs.SubSamples.{AreAlternateSubSamples, ArePartsByRows, AreAlternateSamples, IsRest};
-ghost use Rattle.dirac_upconvert.specs.SubSamples.{IsWithin, PutFrom};
-ghost use Rattle.dirac_upconvert.specs.SubSamples.{between_sides, bilinear, sum_of_four, mixed, place_at, rest_at};
-ghost use Rattle.dirac_upconvert.specs.SubSamples.{rounded};
+ghost use Rattle.dirac_upconvert.specs.SubSamples.{AreAlternateSamples, IsRest, IsWithin, PutFrom};
+ghost use Rattle.dirac_upconvert.specs.SubSamples.{between_sides, bilinear, rounded, sum_of_four, mixed};
 
-use crate::parts::{mix, place, rest, rounded_sum, sample};
+use crate::parts::{mix, rounded_sum, sample};
 use crate::phases::{Phases, held_at, widened};
 use dirac_common::LARGEST_SIDE;
 
@@ -49,6 +48,48 @@ pub struct Rests {
     pub bits: u32,
     pub right: i16,
     pub below: i16,
+}
+
+/// A position of a table: the places at or before it, and how far it lies behind them.
+#[derive(Clone, Copy)]
+pub struct Position {
+    pub rests: Rests,
+    pub across: i64,
+    pub down: i64,
+}
+
+/// The position so many rows of whole samples below another one.
+#[inline(always)]
+pub fn lower(from: Position, rows: usize) -> Position
+    requires from { IsNear (2 ^ 34) (2 ^ 34) from }
+    requires rows { rows ≤ LARGEST_SIDE }
+    ensures rests { result.rests ≡ from.rests }
+    ensures across { result.across ≡ from.across }
+    ensures down { result.down ≡ from.down +ℤ pos (2 * rows) }
+    ensures near { IsNear (2 ^ 34) (2 ^ 35) result }
+{
+    Position {
+        rests: from.rests,
+        across: from.across,
+        down: ahead(from.down, rows),
+    }
+}
+
+/// The position so many whole samples behind another one of its row.
+#[inline(always)]
+fn behind(from: Position, columns: usize) -> Position
+    requires from { IsNear (2 ^ 33) (2 ^ 34) from }
+    requires columns { columns ≤ LARGEST_SIDE }
+    ensures rests { result.rests ≡ from.rests }
+    ensures across { result.across ≡ from.across +ℤ pos (2 * columns) }
+    ensures down { result.down ≡ from.down }
+    ensures near { IsNear (2 ^ 34) (2 ^ 34) result }
+{
+    Position {
+        rests: from.rests,
+        across: ahead(from.across, columns),
+        down: from.down,
+    }
 }
 
 /// Two sums of two samples, one above the other, weighted by the nearness of their places, and divided.
@@ -137,9 +178,7 @@ fn further(sides: Sides, count: usize) -> Sides
 #[inline(always)]
 fn all_between_rows(rests: Rests, above: &[i8], under: &[i8], sides: Sides, out: &mut [i16])
     requires rests { AreRests rests }
-    requires inside { (sides.left + length out.old ≤ length above.now) × (sides.next + length out.old
-        ≤ length above.now) }
-    requires same { length under.now ≡ length above.now }
+    requires inside { AreInside sides (length out.old) above.now under.now }
     ensures { (k : ℕ) → k < length out.old → slice_index_or out.new k (pos 0)
         ≡ between_sides rests.bits rests.right rests.below above.now under.now (sides.left + k) (sides.next + k) }
 {
@@ -174,9 +213,7 @@ fn put_between(
     first: usize,
 )
     requires rests { AreRests rests }
-    requires inside { (sides.left + length lanes.old ≤ length above.now) × (sides.next + length lanes.old
-        ≤ length above.now) }
-    requires same { length under.now ≡ length above.now }
+    requires inside { AreInside sides (length lanes.old) above.now under.now }
     requires lanes_inside { first + length lanes.old ≤ length out.old }
     ensures { PutFrom first (length lanes.old) (λ k. between_sides rests.bits rests.right rests.below above.now
         under.now (sides.left + k) (sides.next + k)) out.old out.new }
@@ -189,9 +226,7 @@ fn put_between(
 #[inline(always)]
 fn by_fours(rests: Rests, above: &[i8], under: &[i8], sides: Sides, out: &mut [i16])
     requires rests { AreRests rests }
-    requires inside { (sides.left + length out.old ≤ length above.now) × (sides.next + length out.old
-        ≤ length above.now) }
-    requires same { length under.now ≡ length above.now }
+    requires inside { AreInside sides (length out.old) above.now under.now }
     requires at_least_4 { 4 ≤ length out.old }
     requires at_most_8 { length out.old ≤ 8 }
     ensures { (k : ℕ) → k < length out.old → slice_index_or out.new k (pos 0)
@@ -216,9 +251,7 @@ fn by_fours(rests: Rests, above: &[i8], under: &[i8], sides: Sides, out: &mut [i
 #[inline(always)]
 fn by_eights(rests: Rests, above: &[i8], under: &[i8], sides: Sides, out: &mut [i16])
     requires rests { AreRests rests }
-    requires inside { (sides.left + length out.old ≤ length above.now) × (sides.next + length out.old
-        ≤ length above.now) }
-    requires same { length under.now ≡ length above.now }
+    requires inside { AreInside sides (length out.old) above.now under.now }
     requires at_least_8 { 8 ≤ length out.old }
     ensures { (k : ℕ) → k < length out.old → slice_index_or out.new k (pos 0)
         ≡ between_sides rests.bits rests.right rests.below above.now under.now (sides.left + k) (sides.next + k) }
@@ -252,9 +285,7 @@ fn by_eights(rests: Rests, above: &[i8], under: &[i8], sides: Sides, out: &mut [
 #[inline(always)]
 fn in_lanes(rests: Rests, above: &[i8], under: &[i8], sides: Sides, out: &mut [i16])
     requires rests { AreRests rests }
-    requires inside { (sides.left + length out.old ≤ length above.now) × (sides.next + length out.old
-        ≤ length above.now) }
-    requires same { length under.now ≡ length above.now }
+    requires inside { AreInside sides (length out.old) above.now under.now }
     ensures { (k : ℕ) → k < length out.old → slice_index_or out.new k (pos 0)
         ≡ between_sides rests.bits rests.right rests.below above.now under.now (sides.left + k) (sides.next + k) }
 {
@@ -355,7 +386,6 @@ fn inner_places(table: &Phases, across: i64, down: i64, out: &mut [i16])
 /// The samples at every second place of row `down`, from place `across` on.
 #[inline(always)]
 pub fn places(table: &Phases, across: i64, down: i64, out: &mut [i16])
-    requires samples { All IsSample table.now.values }
     requires across { unsigned_abs across ≤ 2 ^ 34 }
     requires at_most_4096 { length out.old ≤ LARGEST_SIDE }
     ensures { AreAlternateSamples table.now across down out.new }
@@ -369,7 +399,6 @@ pub fn places(table: &Phases, across: i64, down: i64, out: &mut [i16])
 
 /// The sample behind a place of the table that may lie outside.
 fn clamped_part(table: &Phases, rests: Rests, across: i64, down: i64) -> i16
-    requires samples { All IsSample table.now.values }
     requires rests { AreRests rests }
     requires across { unsigned_abs across ≤ 2 ^ 35 }
     requires down { unsigned_abs down ≤ 2 ^ 35 }
@@ -387,17 +416,14 @@ fn clamped_part(table: &Phases, rests: Rests, across: i64, down: i64) -> i16
     )
 }
 
-/// The samples behind every second place of row `down`, from a place on that may lie outside.
-fn clamped_parts(table: &Phases, rests: Rests, across: i64, down: i64, out: &mut [i16])
-    requires samples { All IsSample table.now.values }
-    requires rests { AreRests rests }
-    requires across { unsigned_abs across ≤ 2 ^ 34 }
-    requires down { unsigned_abs down ≤ 2 ^ 35 }
+/// The samples from a position on, two columns apart, of which some may lie outside.
+fn clamped_parts(table: &Phases, from: Position, out: &mut [i16])
+    requires from { IsNear (2 ^ 34) (2 ^ 35) from }
     requires at_most_4096 { length out.old ≤ LARGEST_SIDE }
-    ensures { AreAlternateSubSamples table.now rests.bits across down rests.right rests.below out.new }
+    ensures { AreSamplesFrom table.now from out.new }
 {
     for k in 0..out.len() {
-        out[k] = clamped_part(table, rests, ahead(across, k), down);
+        out[k] = clamped_part(table, from.rests, ahead(from.across, k), from.down);
     }
 }
 
@@ -414,70 +440,54 @@ fn sides_of(places: usize, x: usize) -> Sides
     }
 }
 
-/// The samples behind every second place of row `down`, where all lie inside the row.
+/// The samples from a position on, two columns apart, where all lie inside the row.
 #[inline(always)]
-fn inner_parts(table: &Phases, rests: Rests, across: i64, down: i64, out: &mut [i16])
-    requires rests { AreRests rests }
-    requires inside { (pos 0 ≤ℤ across) × ((across +ℤ pos (2 * length out.old)) ≤ℤ pos table.now.width) }
-    requires down { unsigned_abs down ≤ 2 ^ 35 }
-    ensures { AreAlternateSubSamples table.now rests.bits across down rests.right rests.below out.new }
+fn inner_parts(table: &Phases, from: Position, out: &mut [i16])
+    requires from { IsNear (2 ^ 34) (2 ^ 35) from }
+    requires inside { (pos 0 ≤ℤ from.across) × ((from.across +ℤ pos (2 * length out.old)) ≤ℤ pos table.now.width) }
+    ensures { AreSamplesFrom table.now from out.new }
 {
-    let above = table.nearest_row(down);
-    let under = table.nearest_row(beside(down));
+    let above = table.nearest_row(from.down);
+    let under = table.nearest_row(beside(from.down));
     in_lanes(
-        rests,
+        from.rests,
         above,
         under,
-        sides_of(above.len(), column(across)),
+        sides_of(above.len(), column(from.across)),
         out,
     );
 }
 
-/// The samples behind every second place of row `down`, from place `across` on.
+/// The samples from a position on, two columns apart.
 #[inline(always)]
-pub fn row_parts(table: &Phases, rests: Rests, across: i64, down: i64, out: &mut [i16])
-    requires samples { All IsSample table.now.values }
-    requires rests { AreRests rests }
-    requires across { unsigned_abs across ≤ 2 ^ 34 }
-    requires down { unsigned_abs down ≤ 2 ^ 35 }
+pub fn row_parts(table: &Phases, from: Position, out: &mut [i16])
+    requires from { IsNear (2 ^ 34) (2 ^ 35) from }
     requires at_most_4096 { length out.old ≤ LARGEST_SIDE }
-    ensures { AreAlternateSubSamples table.now rests.bits across down rests.right rests.below out.new }
+    ensures { AreSamplesFrom table.now from out.new }
 {
-    if rests.right == 0 && rests.below == 0 {
-        places(table, across, down, out);
-    } else if is_inside(across, out.len(), table.width()) {
-        inner_parts(table, rests, across, down, out);
+    if from.rests.right == 0 && from.rests.below == 0 {
+        places(table, from.across, from.down, out);
+    } else if is_inside(from.across, out.len(), table.width()) {
+        inner_parts(table, from, out);
     } else {
-        clamped_parts(table, rests, across, down, out);
+        clamped_parts(table, from, out);
     }
 }
 
-/// Writes the samples behind every second place of every second row, from place `across` of row `down` on, into eight
-/// columns of rows of `width`, from column `first` on.
-fn eight_columns(
-    table: &Phases,
-    rests: Rests,
-    across: i64,
-    down: i64,
-    width: usize,
-    first: usize,
-    out: &mut [i16],
-)
-    requires samples { All IsSample table.now.values }
-    requires rests { AreRests rests }
-    requires across { unsigned_abs across ≤ 2 ^ 34 }
-    requires down { unsigned_abs down ≤ 2 ^ 34 }
+/// Writes the samples from a position on, two columns and two rows apart, into eight columns of rows of `width`, from
+/// column `first` on.
+fn eight_columns(table: &Phases, from: Position, width: usize, first: usize, out: &mut [i16])
+    requires from { IsNear (2 ^ 34) (2 ^ 34) from }
     requires columns { first + 8 ≤ width }
     requires at_most_4096 { length out.old ≤ LARGEST_SIDE }
     ensures eight { (j k : ℕ) → j < length out.old / width → k < 8 → slice_index_or out.new (j * width + (first + k))
-        (pos 0) ≡ rounded (2 * rests.bits) (bilinear table.now (2 ^ rests.bits) (across +ℤ pos (2 * k)) (down +ℤ pos
-        (2 * j)) rests.right rests.below) }
+        (pos 0) ≡ sample_from table.now from k j }
     ensures before { (j k : ℕ) → k < first → slice_index_or out.new (j * width + k) (pos 0)
         ≡ slice_index_or out.old (j * width + k) (pos 0) }
 {
     for j in 0..out.len() / width {
         let mut lanes = [0i16; 8];
-        row_parts(table, rests, across, ahead(down, j), &mut lanes);
+        row_parts(table, lower(from, j), &mut lanes);
         put(&lanes, out, j * width + first);
     }
 }
@@ -490,115 +500,42 @@ fn are_cut_eights(table: &Phases, across: i64, width: usize) -> bool
     width % 8 == 0 && width <= LARGEST_SIDE as usize && !is_inside(across, width, table.width())
 }
 
-/// The samples behind every second place of every second row, from place `across` of row `down` on: rows of eights of
-/// places, so that each eight of them that lies inside is read as one.
-fn columns_of_parts(
-    table: &Phases,
-    rests: Rests,
-    across: i64,
-    down: i64,
-    width: usize,
-    out: &mut [i16],
-)
-    requires samples { All IsSample table.now.values }
-    requires rests { AreRests rests }
-    requires across { unsigned_abs across ≤ 2 ^ 33 }
-    requires down { unsigned_abs down ≤ 2 ^ 34 }
-    requires at_least_1 { 1 ≤ width }
+/// The samples from a position on, two columns and two rows apart: rows of eights of them, so that each eight that lies
+/// inside is read as one.
+fn columns_of_parts(table: &Phases, from: Position, width: usize, out: &mut [i16])
+    requires from { IsNear (2 ^ 33) (2 ^ 34) from }
     requires eights { width % 8 ≡ 0 }
     requires width_at_most_4096 { width ≤ LARGEST_SIDE }
-    requires whole_rows { length out.old % width ≡ 0 }
-    requires at_most_4096 { length out.old ≤ LARGEST_SIDE }
-    ensures { ArePartsByRows table.now rests.bits across down rests.right rests.below width out.new }
+    requires rows { AreWholeRows width out.old }
+    ensures { AreSamplesByRows table.now from width out.new }
 {
     for c in 0..width / 8 {
-        eight_columns(table, rests, ahead(across, 8 * c), down, width, 8 * c, out);
+        eight_columns(table, behind(from, 8 * c), width, 8 * c, out);
     }
 }
 
-/// The samples behind every second place of every second row, from place `across` of row `down` on, row by row.
-fn whole_rows_of_parts(
-    table: &Phases,
-    rests: Rests,
-    across: i64,
-    down: i64,
-    width: usize,
-    out: &mut [i16],
-)
-    requires samples { All IsSample table.now.values }
-    requires rests { AreRests rests }
-    requires across { unsigned_abs across ≤ 2 ^ 33 }
-    requires down { unsigned_abs down ≤ 2 ^ 34 }
-    requires at_least_1 { 1 ≤ width }
-    requires whole_rows { length out.old % width ≡ 0 }
-    requires at_most_4096 { length out.old ≤ LARGEST_SIDE }
-    ensures { ArePartsByRows table.now rests.bits across down rests.right rests.below width out.new }
+/// The samples from a position on, two columns and two rows apart, row by row.
+fn whole_rows_of_parts(table: &Phases, from: Position, width: usize, out: &mut [i16])
+    requires from { IsNear (2 ^ 33) (2 ^ 34) from }
+    requires rows { AreWholeRows width out.old }
+    ensures { AreSamplesByRows table.now from width out.new }
 {
     for j in 0..out.len() / width {
         let start = j * width;
-        row_parts(
-            table,
-            rests,
-            across,
-            ahead(down, j),
-            &mut out[start..start + width],
-        );
+        row_parts(table, lower(from, j), &mut out[start..start + width]);
     }
 }
 
-/// The samples behind every second place of every second row, from place `across` of row `down` on: rows of `width`.
-/// Rows that lie inside the table's rows are read whole.
-pub fn rows_of_parts(
-    table: &Phases,
-    rests: Rests,
-    across: i64,
-    down: i64,
-    width: usize,
-    out: &mut [i16],
-)
-    requires samples { All IsSample table.now.values }
-    requires rests { AreRests rests }
-    requires across { unsigned_abs across ≤ 2 ^ 33 }
-    requires down { unsigned_abs down ≤ 2 ^ 34 }
-    requires at_least_1 { 1 ≤ width }
-    requires whole_rows { length out.old % width ≡ 0 }
-    requires at_most_4096 { length out.old ≤ LARGEST_SIDE }
-    ensures { ArePartsByRows table.now rests.bits across down rests.right rests.below width out.new }
+/// The samples from a position on, two columns and two rows apart: rows of `width`. Rows that lie inside the table's
+/// rows are read whole.
+pub fn rows_of_parts(table: &Phases, from: Position, width: usize, out: &mut [i16])
+    requires from { IsNear (2 ^ 33) (2 ^ 34) from }
+    requires rows { AreWholeRows width out.old }
+    ensures { AreSamplesByRows table.now from width out.new }
 {
-    if are_cut_eights(table, across, width) {
-        columns_of_parts(table, rests, across, down, width, out);
+    if are_cut_eights(table, from.across, width) {
+        columns_of_parts(table, from, width, out);
     } else {
-        whole_rows_of_parts(table, rests, across, down, width, out);
+        whole_rows_of_parts(table, from, width, out);
     }
-}
-
-/// How far a position lies behind its places.
-#[inline(always)]
-pub fn rests_of(bits: u32, x: i64, y: i64) -> Rests
-    requires bits { bits ≤ 2 }
-    ensures bits { result.bits ≡ bits }
-    ensures right { result.right ≡ rest_at x bits }
-    ensures below { result.below ≡ rest_at y bits }
-    ensures within { AreRests result }
-{
-    Rests {
-        bits,
-        right: rest(x, bits),
-        below: rest(y, bits),
-    }
-}
-
-/// The samples at positions of the table that are a whole sample apart, from a position on that is counted in parts,
-/// 2 to the power `bits` to a place.
-pub fn parts(table: &Phases, bits: u32, x: i64, y: i64, out: &mut [i16])
-    requires samples { All IsSample table.now.values }
-    requires bits { bits ≤ 2 }
-    requires x { unsigned_abs x < 2 ^ 34 }
-    requires y { unsigned_abs y < 2 ^ 34 }
-    requires at_most_4096 { length out.old ≤ LARGEST_SIDE }
-    ensures { AreAlternateSubSamples table.now bits (place_at x bits) (place_at y bits) (rest_at x bits)
-        (rest_at y bits) out.new }
-{
-    let rests = rests_of(bits, x, y);
-    row_parts(table, rests, place(x, bits), place(y, bits), out);
 }

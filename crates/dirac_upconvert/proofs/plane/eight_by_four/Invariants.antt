@@ -1,7 +1,6 @@
 use Rattle.std.proofs.Common.{◌≡◌, ℕ, pos, ◌*◌, ◌<◌, slice_index_or}
-use Rattle.dirac_upconvert.proofs.Lanes.{row_by_row}
+use Rattle.dirac_upconvert.proofs.Lanes.{by_rows}
 use Rattle.dirac_upconvert.proofs.plane.eight_by_four.Given as goal
 
 abbrev pub invariant-loop-j : goal.invariant-loop-j
-invariant-loop-j l =
-    (n : ℕ) → n < 8 * l.j → slice_index_or l.out n (pos 0) ≡ row_by_row l.table l.rests.bits l.across l.down l.rests.right l.rests.below n
+invariant-loop-j l = (n : ℕ) → n < 8 * l.j → slice_index_or l.out n (pos 0) ≡ by_rows l.table l.from 8 n

@@ -1,11 +1,7 @@
-use Rattle.std.proofs.Common.{◌≡◌, ℤ, pos, ◌+◌, ◌*◌, ◌≤◌, ◌+ℤ◌, length, get_or, to_z, of_z, arith, refl, inl, inr, ap, ◌∙◌}
-use Rattle.std.specs.Int.{w64}
+use Rattle.std.proofs.Common.{◌≡◌, pos, ◌+◌, ◌*◌, ◌≤◌, length, get_or, arith, refl, inl, inr, ap, ◌∙◌}
 use Rattle.std.proofs.lemmas.Bool.{cases_eq, cases_lt}
-use Rattle.std.proofs.lemmas.Int.{to_z-of_z}
 use Rattle.std.proofs.lemmas.Nat.{row_fits}
-use Rattle.dirac_upconvert.specs.SubSamples.{AreAlternateSubSamples}
-use Rattle.dirac_upconvert.proofs.Lanes.{row_inside}
-use Rattle.dirac_upconvert.proofs.PartRows.{parts_told}
+use Rattle.dirac_upconvert.proofs.Lanes.{row_below, row_inside}
 use Rattle.dirac_upconvert.proofs.rows.eight_columns.Goals as goal
 
 pub loop-j-init : goal.loop-j-init
@@ -16,16 +12,10 @@ put-requires c = omega (arith, row_inside (length c.args.out.now) c.args.width c
 
 pub loop-j-preserved : goal.loop-j-preserved
 loop-j-preserved c =
-    let r = c.args.rests in
-    let t = c.args.table.now in
     let w = c.args.width in
     let first = c.args.first in
     let n = c.loop-j.j in
-    let across : ℤ = to_z w64 (of_z w64 c.args.across) in
-    let down : ℤ = to_z w64 (of_z w64 c.args.down) in
-    let lower : to_z w64 (of_z w64 c.ahead.result) ≡ down +ℤ pos (2 * n) = to_z-of_z w64 _ (record { sfits = c.ahead.type_inv }) ∙ c.ahead.ensures.value in
-    let row : AreAlternateSubSamples t r.bits across (down +ℤ pos (2 * n)) r.right r.below c.row_parts.new.out =
-    parts_told t r.bits _ _ _ _ _ _ _ _ c.row_parts.new.out (length c.row_parts.new.out) c.row_parts.ensures (omega arith) refl lower refl refl in
+    let row = row_below c.args.table.now c.args.from c.lower.result n c.row_parts.new.out c.lower.ensures.rests c.lower.ensures.across c.lower.ensures.down c.row_parts.ensures in
     record {
       eight = λ j k a b. elim (cases_eq j n) [
         | inl here ↦
@@ -49,9 +39,7 @@ loop-j-preserved c =
     }
 
 pub returns-clause-eight : goal.returns-clause-eight
-returns-clause-eight c j k a b =
-    c.loop-j.invariant.eight j k (omega (arith, a, c.loop-j-test.false, c.loop-j.auto.out)) b
-    ∙ rw (to_z-of_z w64 c.args.across c.ranges.across, to_z-of_z w64 c.args.down c.ranges.down) refl
+returns-clause-eight c j k a b = c.loop-j.invariant.eight j k (omega (arith, a, c.loop-j-test.false, c.loop-j.auto.out)) b
 
 pub returns-clause-before : goal.returns-clause-before
 returns-clause-before c = c.loop-j.invariant.before

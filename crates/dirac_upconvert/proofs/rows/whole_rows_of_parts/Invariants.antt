@@ -3,5 +3,4 @@ use Rattle.dirac_upconvert.proofs.Lanes.{by_rows}
 use Rattle.dirac_upconvert.proofs.rows.whole_rows_of_parts.Given as goal
 
 abbrev pub invariant-loop-j : goal.invariant-loop-j
-invariant-loop-j l =
-    (n : ℕ) → n < l.j * l.width → slice_index_or l.out n (pos 0) ≡ by_rows l.table l.rests.bits l.across l.down l.rests.right l.rests.below l.width n
+invariant-loop-j l = (n : ℕ) → n < l.j * l.width → slice_index_or l.out n (pos 0) ≡ by_rows l.table l.from l.width n

@@ -1,85 +1,20 @@
-use Rattle.std.proofs.Common.{◌≡◌, ◌+ℤ◌, ◌*ℤ◌, ◌*◌, ◌/◌, ◌%◌, ◌-◌, ◌+◌, ◌^◌, ◌<◌, ℕ, ℤ, length, slice_index_or, pos, to_z, of_z, arith, refl, ap, subst, ◌∙◌}
+use Rattle.std.proofs.Common.{◌≡◌, ◌+ℤ◌, ◌*◌, ◌/◌, ◌%◌, ◌^◌, ◌<◌, ℕ, length, slice_index_or, pos, arith, refl, subst, ◌∙◌}
 use Rattle.std.specs.Int.{w64}
-use Rattle.std.proofs.lemmas.Int.{ints, to_z-of_z}
-use Rattle.dirac_upconvert.specs.SubSamples.{ArePartsByRows, Up, place_at, rest_at, sub_sample}
-use Rattle.dirac_upconvert.proofs.SampleRows.{rows_of_parts, rows_of_places, rows_samples}
+use Rattle.std.proofs.lemmas.Int.{to_z-of_z}
+use Rattle.dirac_upconvert.specs.SubSamples.{Up, sub_sample}
+use Rattle.dirac_upconvert.proofs.SampleRows.{rows_samples}
 use Rattle.dirac_upconvert.proofs.plane.UpPlane.sub_rows.Goals as goal
 
-pub rows_of_parts-requires-clause-rests : goal.rows_of_parts-requires-clause-rests
-rows_of_parts-requires-clause-rests c = record {
-  bits = omega arith;
-  right = record { least = omega (arith, ints); most = omega (arith, ints) };
-  below = record { least = omega (arith, ints); most = omega (arith, ints) };
-}
-
-pub returns-then-precision-eq0-clause-value : goal.returns-then-precision-eq0-clause-value
-returns-then-precision-eq0-clause-value c =
+pub returns : goal.returns
+returns c =
     let up : Up = record { width = c.self.inside.width; height = c.self.inside.height; table = c.self.inside.table } in
     let out = c.rows_of_parts.new.out in
     let w = c.args.width in
-    let across : to_z w64 (of_z w64 c.twice.result) ≡ pos 2 *ℤ c.args.x = to_z-of_z w64 _ (record { sfits = c.twice.type_inv }) ∙ c.twice.ensures ∙ rw (to_z-of_z w64 c.args.x c.ranges.x) refl in
-    let down : to_z w64 (of_z w64 c.twice-then-precision-eq0.result) ≡ pos 2 *ℤ c.args.y = to_z-of_z w64 _ (record { sfits = c.twice-then-precision-eq0.type_inv }) ∙ c.twice-then-precision-eq0.ensures ∙ rw (to_z-of_z w64 c.args.y c.ranges.y) refl in
-    let told : ArePartsByRows up.table 0 (pos 2 *ℤ c.args.x) (pos 2 *ℤ c.args.y) (pos 0) (pos 0) w out =
-    subst (λ (d : ℤ). ArePartsByRows up.table 0 (pos 2 *ℤ c.args.x) d (pos 0) (pos 0) w out) down
-    (subst (λ (a : ℤ). ArePartsByRows up.table 0 a (to_z w64 (of_z w64 c.twice-then-precision-eq0.result)) (pos 0) (pos 0) w out) across c.rows_of_parts.ensures) in
-    subst (λ (u : Up). (n : ℕ) → n < length c.args.out.now → slice_index_or out n (pos 0) ≡ sub_sample u c.args.precision (c.args.x +ℤ pos (2 ^ c.args.precision * (n % c.args.width))) (c.args.y +ℤ pos (2 ^ c.args.precision * (n / c.args.width)))) c.self.view_is
-    (λ n l. rows_of_places up c.args.precision c.args.x c.args.y w out c.if-precision-eq0.true told n (omega (arith, l, c.rows_of_parts.auto.out)))
-
-pub returns-then-precision-eq0-clause-samples : goal.returns-then-precision-eq0-clause-samples
-returns-then-precision-eq0-clause-samples c =
-    let up : Up = record { width = c.self.inside.width; height = c.self.inside.height; table = c.self.inside.table } in
-    let out = c.rows_of_parts.new.out in
-    let w = c.args.width in
-    let across : to_z w64 (of_z w64 c.twice.result) ≡ pos 2 *ℤ c.args.x = to_z-of_z w64 _ (record { sfits = c.twice.type_inv }) ∙ c.twice.ensures ∙ rw (to_z-of_z w64 c.args.x c.ranges.x) refl in
-    let down : to_z w64 (of_z w64 c.twice-then-precision-eq0.result) ≡ pos 2 *ℤ c.args.y = to_z-of_z w64 _ (record { sfits = c.twice-then-precision-eq0.type_inv }) ∙ c.twice-then-precision-eq0.ensures ∙ rw (to_z-of_z w64 c.args.y c.ranges.y) refl in
-    let told : ArePartsByRows up.table 0 (pos 2 *ℤ c.args.x) (pos 2 *ℤ c.args.y) (pos 0) (pos 0) w out =
-    subst (λ (d : ℤ). ArePartsByRows up.table 0 (pos 2 *ℤ c.args.x) d (pos 0) (pos 0) w out) down
-    (subst (λ (a : ℤ). ArePartsByRows up.table 0 a (to_z w64 (of_z w64 c.twice-then-precision-eq0.result)) (pos 0) (pos 0) w out) across c.rows_of_parts.ensures) in
-    rows_samples up c.args.precision c.args.x c.args.y w out c.requires.precision c.self.invariant.samples
-    (rows_of_places up c.args.precision c.args.x c.args.y w out c.if-precision-eq0.true told)
-
-pub returns-else-precision-eq0-clause-value : goal.returns-else-precision-eq0-clause-value
-returns-else-precision-eq0-clause-value c =
-    let up : Up = record { width = c.self.inside.width; height = c.self.inside.height; table = c.self.inside.table } in
-    let out = c.rows_of_parts-else-precision-eq0.new.out in
-    let w = c.args.width in
-    let bits = c.from-bits.result - 1 in
-    let next : c.args.precision ≡ (c.from-bits.result - 1) + 1 = omega (arith, c.from-bits.ensures, c.if-precision-eq0.false) in
-    let x : to_z w64 (of_z w64 c.args.x) ≡ c.args.x = to_z-of_z w64 c.args.x c.ranges.x in
-    let y : to_z w64 (of_z w64 c.args.y) ≡ c.args.y = to_z-of_z w64 c.args.y c.ranges.y in
-    let across : to_z w64 (of_z w64 c.place.result) ≡ place_at c.args.x bits = to_z-of_z w64 _ (record { sfits = c.place.type_inv }) ∙ c.place.ensures.value ∙ ap (λ z. place_at z bits) x in
-    let down : to_z w64 (of_z w64 c.place-else-precision-eq0.result) ≡ place_at c.args.y bits = to_z-of_z w64 _ (record { sfits = c.place-else-precision-eq0.type_inv }) ∙ c.place-else-precision-eq0.ensures.value ∙ ap (λ z. place_at z bits) y in
-    let right : c.rests_of.result.right ≡ rest_at c.args.x bits = c.rests_of.ensures.right ∙ ap (λ z. rest_at z bits) x in
-    let below : c.rests_of.result.below ≡ rest_at c.args.y bits = c.rests_of.ensures.below ∙ ap (λ z. rest_at z bits) y in
-    let told : ArePartsByRows up.table bits (place_at c.args.x bits) (place_at c.args.y bits) (rest_at c.args.x bits) (rest_at c.args.y bits) w out =
-    subst (λ (b : ℤ). ArePartsByRows up.table bits (place_at c.args.x bits) (place_at c.args.y bits) (rest_at c.args.x bits) b w out) below
-    (subst (λ (r : ℤ). ArePartsByRows up.table bits (place_at c.args.x bits) (place_at c.args.y bits) r c.rests_of.result.below w out) right
-    (subst (λ (d : ℤ). ArePartsByRows up.table bits (place_at c.args.x bits) d c.rests_of.result.right c.rests_of.result.below w out) down
-    (subst (λ (a : ℤ). ArePartsByRows up.table bits a (to_z w64 (of_z w64 c.place-else-precision-eq0.result)) c.rests_of.result.right c.rests_of.result.below w out) across
-    (subst (λ (b : ℕ). ArePartsByRows up.table b (to_z w64 (of_z w64 c.place.result)) (to_z w64 (of_z w64 c.place-else-precision-eq0.result)) c.rests_of.result.right c.rests_of.result.below w out) c.rests_of.ensures.bits
-    c.rows_of_parts-else-precision-eq0.ensures)))) in
-    subst (λ (u : Up). (n : ℕ) → n < length c.args.out.now → slice_index_or out n (pos 0) ≡ sub_sample u c.args.precision (c.args.x +ℤ pos (2 ^ c.args.precision * (n % c.args.width))) (c.args.y +ℤ pos (2 ^ c.args.precision * (n / c.args.width)))) c.self.view_is
-    (λ n l. rows_of_parts up c.args.precision bits c.args.x c.args.y w out (omega (arith, c.from-bits.ensures, c.requires.precision)) next told n (omega (arith, l, c.rows_of_parts-else-precision-eq0.auto.out)))
-
-pub returns-else-precision-eq0-clause-samples : goal.returns-else-precision-eq0-clause-samples
-returns-else-precision-eq0-clause-samples c =
-    let up : Up = record { width = c.self.inside.width; height = c.self.inside.height; table = c.self.inside.table } in
-    let out = c.rows_of_parts-else-precision-eq0.new.out in
-    let w = c.args.width in
-    let bits = c.from-bits.result - 1 in
-    let next : c.args.precision ≡ (c.from-bits.result - 1) + 1 = omega (arith, c.from-bits.ensures, c.if-precision-eq0.false) in
-    let x : to_z w64 (of_z w64 c.args.x) ≡ c.args.x = to_z-of_z w64 c.args.x c.ranges.x in
-    let y : to_z w64 (of_z w64 c.args.y) ≡ c.args.y = to_z-of_z w64 c.args.y c.ranges.y in
-    let across : to_z w64 (of_z w64 c.place.result) ≡ place_at c.args.x bits = to_z-of_z w64 _ (record { sfits = c.place.type_inv }) ∙ c.place.ensures.value ∙ ap (λ z. place_at z bits) x in
-    let down : to_z w64 (of_z w64 c.place-else-precision-eq0.result) ≡ place_at c.args.y bits = to_z-of_z w64 _ (record { sfits = c.place-else-precision-eq0.type_inv }) ∙ c.place-else-precision-eq0.ensures.value ∙ ap (λ z. place_at z bits) y in
-    let right : c.rests_of.result.right ≡ rest_at c.args.x bits = c.rests_of.ensures.right ∙ ap (λ z. rest_at z bits) x in
-    let below : c.rests_of.result.below ≡ rest_at c.args.y bits = c.rests_of.ensures.below ∙ ap (λ z. rest_at z bits) y in
-    let told : ArePartsByRows up.table bits (place_at c.args.x bits) (place_at c.args.y bits) (rest_at c.args.x bits) (rest_at c.args.y bits) w out =
-    subst (λ (b : ℤ). ArePartsByRows up.table bits (place_at c.args.x bits) (place_at c.args.y bits) (rest_at c.args.x bits) b w out) below
-    (subst (λ (r : ℤ). ArePartsByRows up.table bits (place_at c.args.x bits) (place_at c.args.y bits) r c.rests_of.result.below w out) right
-    (subst (λ (d : ℤ). ArePartsByRows up.table bits (place_at c.args.x bits) d c.rests_of.result.right c.rests_of.result.below w out) down
-    (subst (λ (a : ℤ). ArePartsByRows up.table bits a (to_z w64 (of_z w64 c.place-else-precision-eq0.result)) c.rests_of.result.right c.rests_of.result.below w out) across
-    (subst (λ (b : ℕ). ArePartsByRows up.table b (to_z w64 (of_z w64 c.place.result)) (to_z w64 (of_z w64 c.place-else-precision-eq0.result)) c.rests_of.result.right c.rests_of.result.below w out) c.rests_of.ensures.bits
-    c.rows_of_parts-else-precision-eq0.ensures)))) in
-    rows_samples up c.args.precision c.args.x c.args.y w out c.requires.precision c.self.invariant.samples
-    (rows_of_parts up c.args.precision bits c.args.x c.args.y w out (omega (arith, c.from-bits.ensures, c.requires.precision)) next told)
+    let all : (n : ℕ) → n < length out → slice_index_or out n (pos 0) ≡ sub_sample up c.args.precision (c.args.x +ℤ pos (2 ^ c.args.precision * (n % w))) (c.args.y +ℤ pos (2 ^ c.args.precision * (n / w))) =
+    λ n l. c.rows_of_parts.ensures n l ∙ c.position_of.ensures.samples up (n / w) (n % w) ∙ rw (to_z-of_z w64 c.args.x c.ranges.x, to_z-of_z w64 c.args.y c.ranges.y) refl in
+    record {
+      value =
+          subst (λ (u : Up). (n : ℕ) → n < length c.args.out.now → slice_index_or out n (pos 0) ≡ sub_sample u c.args.precision (c.args.x +ℤ pos (2 ^ c.args.precision * (n % w))) (c.args.y +ℤ pos (2 ^ c.args.precision * (n / w)))) c.self.view_is
+          (λ n l. all n (omega (arith, l, c.rows_of_parts.auto.out)));
+      samples = rows_samples up c.args.precision c.args.x c.args.y w out c.requires.precision c.self.invariant.samples all;
+    }

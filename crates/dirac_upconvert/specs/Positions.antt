@@ -1,0 +1,41 @@
+-- Samples of a table from a position on, and rows of them.
+use Rattle.std.specs.Prelude.{◌≡◌, ℕ, ℤ, pos, ◌+◌, ◌*◌, ◌/◌, ◌%◌, ◌^◌, ◌<◌, ◌≤◌, List, length, slice_index_or, ◌+ℤ◌}
+use Rattle.std.specs.Prelude.{unsigned_abs}
+use Rattle.dirac_common.specs.declared.limits.TheConstants.{LARGEST_SIDE}
+use Rattle.dirac_common.specs.Table.{Table}
+use Rattle.dirac_upconvert.specs.declared.rows.Position.{Position}
+use Rattle.dirac_upconvert.specs.declared.rows.Sides.{Sides}
+use Rattle.dirac_upconvert.specs.Rests.{AreRests}
+use Rattle.dirac_upconvert.specs.SubSamples.{AreAlternateSubSamples, bilinear, rounded}
+
+-- a position at most so many places across and down from the table's first one
+abbrev pub IsNear : ℕ → ℕ → Position → Type 0
+IsNear across down p = AreRests p.rests × (unsigned_abs p.across ≤ across) × (unsigned_abs p.down ≤ down)
+
+-- the sample that lies so many columns and rows, each of two places, behind a position
+abbrev pub sample_from : Table → Position → ℕ → ℕ → ℤ
+sample_from t p columns rows =
+    rounded (2 * p.rests.bits) (bilinear t (2 ^ p.rests.bits) (p.across +ℤ pos (2 * columns)) (p.down +ℤ pos (2 * rows))
+    p.rests.right p.rests.below)
+
+-- the samples of its row, from it on
+abbrev pub AreSamplesFrom : Table → Position → List ℤ → Type 0
+AreSamplesFrom t p out = AreAlternateSubSamples t p.rests.bits p.across p.down p.rests.right p.rests.below out
+
+-- the samples of four rows, eight of each
+abbrev pub AreSamplesByFour : Table → Position → List ℤ → Type 0
+AreSamplesByFour t p out = (j k : ℕ) → j < 4 → k < 8 → slice_index_or out (8 * j + k) (pos 0) ≡ sample_from t p k j
+
+-- the samples of rows, row after row, that many of each
+abbrev pub AreSamplesByRows : Table → Position → ℕ → List ℤ → Type 0
+AreSamplesByRows t p width out =
+    (n : ℕ) → n < length out → slice_index_or out n (pos 0) ≡ sample_from t p (n % width) (n / width)
+
+-- whole rows of that many samples, no more of them than a row may have
+abbrev pub AreWholeRows : ℕ → List ℤ → Type 0
+AreWholeRows width out = (1 ≤ width) × (length out % width ≡ 0) × (length out ≤ LARGEST_SIDE)
+
+-- two rows of one length, which hold that many samples on both sides
+abbrev pub AreInside : Sides → ℕ → List ℤ → List ℤ → Type 0
+AreInside s count above under =
+    (s.left + count ≤ length above) × (s.next + count ≤ length above) × (length under ≡ length above)
