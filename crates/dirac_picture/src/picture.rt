@@ -9,7 +9,7 @@ ghost use Rattle.dirac_picture.specs.Answers.{GivesOrStops};
 ghost use Rattle.dirac_picture.specs.Grammar as grammar;
 ghost use Rattle.dirac_picture.specs.Fits.{FitsSequence, IsLayout, IsPlaneSize, HasResidual, IsResidual, IsTransform};
 ghost use Rattle.dirac_picture.specs.Fits.{NamesReferences};
-ghost use Rattle.dirac_picture.specs.Reading.{ReadsPlanes};
+ghost use Rattle.dirac_picture.specs.Reading.{CanBeRead, CanRead, ReadsPlanes, ReadsThem};
 
 use crate::coded::{CodedPicture, CodedResidual};
 use crate::motion::read_motion;
@@ -20,6 +20,16 @@ use dirac_header::{PictureHeader, Transform, read_header, read_transform};
 use dirac_refs::RefBuffer;
 use dirac_sequence_header::Sequence;
 use std::alloc::Global;
+
+/// What the fields of a picture are read with.
+#[derive(Drop)]
+struct Reading<'a, F> {
+    /// Reads the subbands of the planes.
+    planes: &'a F,
+    alloc: Global,
+    code: u8,
+    sequence: &'a Sequence,
+}
 
 /// Reads the payload of a picture (picture parsing, Dirac specification). The place of a refusal counts from
 /// the payload's first byte; a reference that isn't listed is refused there.
@@ -72,37 +82,36 @@ pub fn read_picture_by<
     ensures listed { IfOk result (λ p. IsTrue (grammar.are_listed refs.now p.header)) }
 {
     let mut r = BitReader::new(payload);
-    read_fields(planes, alloc, &mut r, code, sequence, refs)
+    let reading = Reading {
+        planes,
+        alloc,
+        code,
+        sequence,
+    };
+    read_fields(&reading, &mut r, refs)
 }
 
 /// Reads the fields of a picture.
 #[tactic(auto, unfolding(crate::specs::Grammar::picture), using(dirac_bits::specs::Then::read_then))]
 fn read_fields<
     F: Fn(Global, &mut BitReader<'_>, Transform, &Sequence) -> Result<CodedResidual, Stop>,
->(
-    planes: &F,
-    alloc: Global,
-    r: &mut BitReader<'_>,
-    code: u8,
-    sequence: &Sequence,
-    refs: &RefBuffer,
-) -> Result<CodedPicture, Stop>
-    requires planes { ReadsPlanes (F.pre planes.now) (F.post planes.now) }
-    requires code { IsTrue (grammar.is_picture code) }
-    requires sequence { IsSequence sequence.now }
-    ensures value { ReadsOrStops result r.new (read (grammar.picture code sequence.now refs.now) r.old) }
+>(reading: &Reading<'_, F>, r: &mut BitReader<'_>, refs: &RefBuffer) -> Result<CodedPicture, Stop>
+    requires reading { CanRead reading.now.code reading.now.sequence.now (F.pre reading.now.planes.now)
+        (F.post reading.now.planes.now) }
+    ensures value { ReadsOrStops result r.new
+        (read (grammar.picture reading.now.code reading.now.sequence.now refs.now) r.old) }
     ensures place_inside { IfErr result (IsEarly (length r.old.bytes)) }
-    ensures fits { IfOk result (FitsSequence code sequence.now) }
+    ensures fits { IfOk result (FitsSequence reading.now.code reading.now.sequence.now) }
     ensures listed { IfOk result (λ p. IsTrue (grammar.are_listed refs.now p.header)) }
 {
-    let header = read_header(r, code)?;
+    let header = read_header(r, reading.code)?;
     if !are_listed(refs, &header) {
         return Err(Stop::Refused(Refusal {
             at: 0,
             cause: Cause::MissingReference,
         }));
     }
-    read_body(planes, alloc, r, code, sequence, header)
+    read_body(reading, r, header)
 }
 
 /// Whether each reference that a header names is listed.
@@ -117,27 +126,25 @@ pub fn are_listed(refs: &RefBuffer, header: &PictureHeader) -> bool
 fn read_body<
     F: Fn(Global, &mut BitReader<'_>, Transform, &Sequence) -> Result<CodedResidual, Stop>,
 >(
-    planes: &F,
-    alloc: Global,
+    reading: &Reading<'_, F>,
     r: &mut BitReader<'_>,
-    code: u8,
-    sequence: &Sequence,
     header: PictureHeader,
 ) -> Result<CodedPicture, Stop>
-    requires planes { ReadsPlanes (F.pre planes.now) (F.post planes.now) }
-    requires code { IsTrue (grammar.is_picture code) }
-    requires sequence { IsSequence sequence.now }
-    requires header { NamesReferences code header }
-    ensures value { ReadsOrStops result r.new (read (grammar.body code sequence.now header) r.old) }
+    requires reading { CanRead reading.now.code reading.now.sequence.now (F.pre reading.now.planes.now)
+        (F.post reading.now.planes.now) }
+    requires header { NamesReferences reading.now.code header }
+    ensures value { ReadsOrStops result r.new
+        (read (grammar.body reading.now.code reading.now.sequence.now header) r.old) }
     ensures place_inside { IfErr result (IsEarly (length r.old.bytes)) }
     ensures kept { r.new.bytes ≡ r.old.bytes }
-    ensures fits { IfOk result (FitsSequence code sequence.now) }
+    ensures fits { IfOk result (FitsSequence reading.now.code reading.now.sequence.now) }
     ensures header { IfOk result (λ p. p.header ≡ header) }
 {
-    let motion = read_motion(alloc, r, code, sequence)?;
+    let code = reading.code;
+    let motion = read_motion(reading.alloc, r, code, reading.sequence)?;
     r.align();
     let zero = read_zero_residual(r, code)?;
-    let residual = read_residual_unless(planes, alloc, r, code, zero, sequence)?;
+    let residual = read_residual_unless(reading, r, zero)?;
     Ok(CodedPicture {
         code,
         header,
@@ -165,25 +172,22 @@ fn read_zero_residual(r: &mut BitReader<'_>, code: u8) -> Result<bool, Refusal>
 fn read_residual_unless<
     F: Fn(Global, &mut BitReader<'_>, Transform, &Sequence) -> Result<CodedResidual, Stop>,
 >(
-    planes: &F,
-    alloc: Global,
+    reading: &Reading<'_, F>,
     r: &mut BitReader<'_>,
-    code: u8,
     zero: bool,
-    sequence: &Sequence,
 ) -> Result<Option<CodedResidual>, Stop>
-    requires planes { ReadsPlanes (F.pre planes.now) (F.post planes.now) }
-    requires inter { zero ≡ true → grammar.is_intra code ≡ false }
-    requires sequence { IsSequence sequence.now }
-    ensures value { ReadsOrStops result r.new (read (grammar.residual_unless zero sequence.now) r.old) }
+    requires reading { CanRead reading.now.code reading.now.sequence.now (F.pre reading.now.planes.now)
+        (F.post reading.now.planes.now) }
+    requires inter { zero ≡ true → grammar.is_intra reading.now.code ≡ false }
+    ensures value { ReadsOrStops result r.new (read (grammar.residual_unless zero reading.now.sequence.now) r.old) }
     ensures place_inside { IfErr result (IsEarly (length r.old.bytes)) }
     ensures kept { r.new.bytes ≡ r.old.bytes }
-    ensures fits { IfOk result (HasResidual code sequence.now) }
+    ensures fits { IfOk result (HasResidual reading.now.code reading.now.sequence.now) }
 {
     if zero {
         return Ok(None);
     }
-    let residual = read_residual(planes, alloc, r, sequence)?;
+    let residual = read_residual(reading, r)?;
     Ok(Some(residual))
 }
 
@@ -191,44 +195,34 @@ fn read_residual_unless<
 #[tactic(auto, unfolding(crate::specs::Grammar::residual_fields), using(dirac_bits::specs::Then::read_then))]
 fn read_residual<
     F: Fn(Global, &mut BitReader<'_>, Transform, &Sequence) -> Result<CodedResidual, Stop>,
->(
-    planes: &F,
-    alloc: Global,
-    r: &mut BitReader<'_>,
-    sequence: &Sequence,
-) -> Result<CodedResidual, Stop>
-    requires planes { ReadsPlanes (F.pre planes.now) (F.post planes.now) }
-    requires sequence { IsSequence sequence.now }
-    ensures value { ReadsOrStops result r.new (read (grammar.residual_fields sequence.now) r.old) }
+>(reading: &Reading<'_, F>, r: &mut BitReader<'_>) -> Result<CodedResidual, Stop>
+    requires reading { CanRead reading.now.code reading.now.sequence.now (F.pre reading.now.planes.now)
+        (F.post reading.now.planes.now) }
+    ensures value { ReadsOrStops result r.new (read (grammar.residual_fields reading.now.sequence.now) r.old) }
     ensures place_inside { IfErr result (IsEarly (length r.old.bytes)) }
     ensures kept { r.new.bytes ≡ r.old.bytes }
-    ensures fits { IfOk result (IsResidual sequence.now) }
+    ensures fits { IfOk result (IsResidual reading.now.sequence.now) }
 {
+    let sequence = reading.sequence;
     let transform = read_transform(r, sequence.width, sequence.picture_height())?;
-    planes_by(planes, alloc, r, transform, sequence)
+    planes_by(reading, r, transform)
 }
 
-/// The subbands of the three planes, read by `planes`.
+/// The subbands of the three planes, read by the call for them.
 fn planes_by<
     F: Fn(Global, &mut BitReader<'_>, Transform, &Sequence) -> Result<CodedResidual, Stop>,
 >(
-    planes: &F,
-    alloc: Global,
+    reading: &Reading<'_, F>,
     r: &mut BitReader<'_>,
     transform: Transform,
-    sequence: &Sequence,
 ) -> Result<CodedResidual, Stop>
-    requires planes { ReadsPlanes (F.pre planes.now) (F.post planes.now) }
-    requires transform { IsTransform sequence.now.width (picture_height sequence.now) transform }
-    requires layout { IsLayout transform }
-    requires luma { IsPlaneSize sequence.now.width (picture_height sequence.now) }
-    requires chroma { IsPlaneSize (chroma_width sequence.now) (chroma_height sequence.now) }
-    ensures value { ReadsOrStops result r.new (read (grammar.planes sequence.now transform) r.old) }
-    ensures place_inside { IfErr result (IsEarly (length r.old.bytes)) }
-    ensures kept { r.new.bytes ≡ r.old.bytes }
-    ensures fits { IfOk result (IsResidual sequence.now) }
+    requires reading { CanRead reading.now.code reading.now.sequence.now (F.pre reading.now.planes.now)
+        (F.post reading.now.planes.now) }
+    requires planes { CanBeRead reading.now.sequence.now transform }
+    ensures { ReadsThem reading.now.sequence.now transform r.old result r.new }
 {
-    planes(alloc, r, transform, sequence)
+    let planes = reading.planes;
+    planes(reading.alloc, r, transform, reading.sequence)
 }
 
 /// Reads the subbands of the three planes, one after another.

@@ -1,4 +1,4 @@
-use Rattle.std.proofs.Common.{◌≡◌, ◌+◌, length, ap, ◌∙◌, arith, [], ◌∷◌, length-append}
+use Rattle.std.proofs.Common.{length, ap, ◌∙◌, arith, [], ◌∷◌, length-append}
 use Rattle.dirac_picture.proofs.Finding.{sites_more, indexed_more}
 use Rattle.dirac_picture.proofs.sites.find_sites.Goals as goal
 
