@@ -16,8 +16,10 @@ use Rattle.dirac_synthesis.specs.declared.bands.Level.{Level}
 use Rattle.dirac_synthesis.specs.declared.bands.LevelBands.{LevelBands}
 use Rattle.dirac_synthesis.specs.declared.bands.Synthesis.{Synthesis}
 use Rattle.dirac_synthesis.specs.Codeblocks.{restored_band, restored_by_one}
-use Rattle.dirac_synthesis.specs.Fits.{AreRestorableBands, IsBandOf}
+use Rattle.dirac_synthesis.specs.declared.plane.CodedPlane.{CodedPlane}
+use Rattle.dirac_synthesis.specs.Fits.{IsBandOf}
 use Rattle.dirac_synthesis.specs.Levels.{IsLevel, IsLevelOf, IsLow, joined_by, level_plane, next_low}
+use Rattle.dirac_synthesis.specs.Planes.{IsLowOf, IsRestorablePlane}
 use Rattle.dirac_synthesis.specs.Residual.{summed}
 use Rattle.dirac_synthesis.proofs.Bounds.{joined_bound}
 use Rattle.dirac_synthesis.proofs.ByCodeblock.{band_at_most}
@@ -42,15 +44,7 @@ next_grows b by low next bands e least some l all =
 pub one_plane : (by : Synthesis) (low : Table) (bands : LevelBands) → restored_band by.kind by.counts bands.hl.now ≡ restored_by_one by.kind bands.hl.now → restored_band by.kind by.counts bands.lh.now ≡ restored_by_one by.kind bands.lh.now → restored_band by.kind by.counts bands.hh.now ≡ restored_by_one by.kind bands.hh.now → joined_by (restored_by_one by.kind) low bands ≡ level_plane by low bands
 one_plane by low bands hl lh hh = rw (hl, lh, hh) refl
 
--- a plane that can be synthesised
-pub record IsPlane (t : Transform) (bands : List CodedBand) (width height : ℕ) : Type 0 where
-  pub wavelet : IsWavelet t.wavelet
-  pub depth : t.depth ≤ 5
-  pub across : (1 ≤ width) × (width ≤ 8192)
-  pub down : height ≤ 8192
-  pub all : AreRestorableBands t width height bands
-
--- its first LL band
+-- the first LL band of a plane
 pub low_first : (t : Transform) (kind : Kind) (bands : List CodedBand) (width height : ℕ) (counts : ℕ × ℕ) (b : CodedBand) (low : Table) → slice_get t.counts 0 ≡ Some counts → slice_get bands 0 ≡ Some b → IsBandOf t width height 0 b → low ≡ summed kind (restored_band kind counts b) → All (λ v. unsigned_abs v ≤ 2 ^ 77) low.values → IsLow t kind bands width height 0 low
 low_first t kind bands width height counts b low told got fits e small = record {
   value = first_level t kind bands counts b low (ap counts_among told) got e;
@@ -60,25 +54,27 @@ low_first t kind bands width height counts b low told got fits e small = record 
 }
 
 -- a level behind an LL band
-pub low_stands : (t : Transform) (kind : Kind) (bands : List CodedBand) (width height n : ℕ) (l : Level) (low : Table) → IsPlane t bands width height → n < t.depth → IsLevelOf t kind bands n l → IsLow t kind bands width height n low → IsLevel l.by low l.bands
-low_stands t kind bands width height n l low p less is q =
-    stands_level t bands width height n l.by low l.bands (subst IsWavelet (sym is.wavelet) p.wavelet) p.depth p.across.1 p.down p.all less is.counts q.across q.down
-    (all_weaker (2 ^ 77 * 73 ^ n) (2 ^ 103) low.values (entry_bound n (omega (arith, less, p.depth))) q.bound) is.hl is.lh is.hh
+pub low_stands : (c : CodedPlane) (n : ℕ) (l : Level) (low : Table) → IsRestorablePlane c → n < c.transform.now.depth → IsLevelOf c.transform.now c.kind c.bands.now n l → IsLowOf c n low → IsLevel l.by low l.bands
+low_stands c n l low p less is q =
+    stands_level c.transform.now c.bands.now c.width c.height n l.by low l.bands (subst IsWavelet (sym is.wavelet) p.wavelet) p.depth.1 p.across.1 p.down.1 p.bands less is.counts q.across q.down
+    (all_weaker (2 ^ 77 * 73 ^ n) (2 ^ 103) low.values (entry_bound n (omega (arith, less, p.depth.1))) q.bound) is.hl is.lh is.hh
 
 -- and the LL band behind it
-pub low_next : (t : Transform) (kind : Kind) (bands : List CodedBand) (width height n : ℕ) (l : Level) (low next : Table) → IsPlane t bands width height → n < t.depth → IsLevelOf t kind bands n l → IsLow t kind bands width height n low → next ≡ next_low l.by low l.bands → IsLow t kind bands width height (n + 1) next
-low_next t kind bands width height n l low next p less is q e = record {
-  value =
-      more_levels t kind bands n l.by.counts l.bands.hl.now l.bands.lh.now l.bands.hh.now low next (ap counts_among is.counts) q.value is.hl is.lh is.hh
-      (e
-      ∙ ap (λ w. level w low (restored_band l.by.kind l.by.counts l.bands.hl.now) (restored_band l.by.kind l.by.counts l.bands.lh.now) (restored_band l.by.kind l.by.counts l.bands.hh.now)) is.wavelet
-      ∙ ap (λ k. level t.wavelet low (restored_band k l.by.counts l.bands.hl.now) (restored_band k l.by.counts l.bands.lh.now) (restored_band k l.by.counts l.bands.hh.now)) is.of_kind);
-  across = next_length (lowest_size width t.depth) n low.width next.width (ap (λ (t : Table). t.width) e) q.across;
-  down = next_length (lowest_size height t.depth) n low.height next.height (ap (λ (t : Table). t.height) e) q.down;
-  bound =
-      all_weaker (72 * (2 ^ 77 * 73 ^ n) + 40) (2 ^ 77 * 73 ^ (n + 1)) next.values (bound_more n)
-      (next_grows (2 ^ 77 * 73 ^ n) l.by low next l.bands e (bound_least n) (level_some width t.depth n low.width p.across.0 q.across) (low_stands t kind bands width height n l low p less is q) q.bound);
-}
+pub low_next : (c : CodedPlane) (n : ℕ) (l : Level) (low next : Table) → IsRestorablePlane c → n < c.transform.now.depth → IsLevelOf c.transform.now c.kind c.bands.now n l → IsLowOf c n low → next ≡ next_low l.by low l.bands → IsLowOf c (n + 1) next
+low_next c n l low next p less is q e =
+    let t = c.transform.now in
+    record {
+      value =
+          more_levels t c.kind c.bands.now n l.by.counts l.bands.hl.now l.bands.lh.now l.bands.hh.now low next (ap counts_among is.counts) q.value is.hl is.lh is.hh
+          (e
+          ∙ ap (λ w. level w low (restored_band l.by.kind l.by.counts l.bands.hl.now) (restored_band l.by.kind l.by.counts l.bands.lh.now) (restored_band l.by.kind l.by.counts l.bands.hh.now)) is.wavelet
+          ∙ ap (λ k. level t.wavelet low (restored_band k l.by.counts l.bands.hl.now) (restored_band k l.by.counts l.bands.lh.now) (restored_band k l.by.counts l.bands.hh.now)) is.of_kind);
+      across = next_length (lowest_size c.width t.depth) n low.width next.width (ap (λ (t : Table). t.width) e) q.across;
+      down = next_length (lowest_size c.height t.depth) n low.height next.height (ap (λ (t : Table). t.height) e) q.down;
+      bound =
+          all_weaker (72 * (2 ^ 77 * 73 ^ n) + 40) (2 ^ 77 * 73 ^ (n + 1)) next.values (bound_more n)
+          (next_grows (2 ^ 77 * 73 ^ n) l.by low next l.bands e (bound_least n) (level_some c.width t.depth n low.width p.across.0 q.across) (low_stands c n l low p less is q) q.bound);
+    }
 
 -- twice the LL band before the last level is the plane with what was padded
 pub last_across : (t : Transform) (kind : Kind) (bands : List CodedBand) (width height last : ℕ) (low : Table) → t.depth ≡ last + 1 → IsLow t kind bands width height last low → (width ≤ 2 * low.width) × (height ≤ 2 * low.height)

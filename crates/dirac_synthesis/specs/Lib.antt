@@ -4,6 +4,7 @@ pub mod Halves
 pub mod LastLevel
 pub mod Levels
 pub mod NarrowLevels
+pub mod Planes
 pub mod Residual
 pub mod Strips
 pub mod Unfinished

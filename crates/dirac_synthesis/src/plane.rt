@@ -1,12 +1,12 @@
 ghost use Rattle.std.specs.Prelude.{◌≡◌, ℕ, true, ◌+◌, ◌-◌, ◌*◌, ◌^◌, ◌<◌, ◌≤◌, length, unsigned_abs, IfOk};
 ghost use Rattle.std.specs.Prelude.{slice_get, Some};
 ghost use Rattle.std.specs.List.{All};
-ghost use Rattle.dirac_common.specs.Limits.{IsDepth, IsIndex, IsWavelet};
+ghost use Rattle.dirac_common.specs.Limits.{IsDepth, IsWavelet};
 ghost use Rattle.dirac_coeffs.specs.declared.layout.CodedBand.{CodedBand as TheBand};
 ghost use Rattle.dirac_lift.specs.Zeros.{AreZeros};
-ghost use Rattle.dirac_synthesis.specs.Codeblocks.{HasIndices, restored_band};
 ghost use Rattle.dirac_synthesis.specs.Fits.{AreRestorableBands};
-ghost use Rattle.dirac_synthesis.specs.Levels.{IsLevelOf, IsLow};
+ghost use Rattle.dirac_synthesis.specs.Levels.{IsLevelOf};
+ghost use Rattle.dirac_synthesis.specs.Planes.{IsLowOf, IsRestorablePlane};
 ghost use Rattle.dirac_synthesis.specs.Residual.{residual, summed};
 
 use crate::bands::{Level, LevelBands, Synthesis};
@@ -20,27 +20,30 @@ use dirac_common::{Kind, LARGEST_SIDE, LARGEST_TABLE_SIDE, NoMemory, Wide};
 use dirac_parameters::Transform;
 use std::alloc::Global;
 
-/// The LL band of level 0, whose values an intra picture codes as differences from their predictions.
-fn lowest_band(
-    alloc: Global,
-    band: &CodedBand,
-    counts: (u32, u32),
-    kind: Kind,
-) -> Result<Wide, NoMemory>
-    requires index { IsIndex band.now.index }
-    requires indices { HasIndices counts band.now }
-    requires across { band.now.table.width ≤ LARGEST_SIDE }
-    requires down { band.now.table.height ≤ LARGEST_SIDE }
-    requires magnitudes_below_2_39 { All (λ v. unsigned_abs v < 2 ^ 39 - 1) band.now.table.values }
-    ensures value { IfOk result (λ t. t ≡ summed kind (restored_band kind counts band.now)) }
-    ensures bound { IfOk result (λ t. All (λ v. unsigned_abs v ≤ 2 ^ 77) t.values) }
+/// The coded bands of a plane, which stand in the order LL, then HL, LH and HH of levels 1 to the transform's depth, and
+/// its size.
+#[derive(Clone, Copy)]
+pub struct CodedPlane<'t, 'a> {
+    pub transform: &'t Transform,
+    pub kind: Kind,
+    pub bands: &'a [CodedBand],
+    pub width: u32,
+    pub height: u32,
+}
+
+/// The LL band of level 0 from its coefficients: an intra picture codes differences from their predictions.
+fn summed_up(mut low: Wide, kind: Kind) -> Wide
+    requires across { low.width ≤ LARGEST_SIDE }
+    requires down { low.height ≤ LARGEST_SIDE }
+    requires bound { All (λ v. unsigned_abs v < 2 ^ 64) low.values }
+    ensures value { result ≡ summed kind low }
+    ensures bound { All (λ v. unsigned_abs v ≤ 2 ^ 77) result.values }
 {
-    let mut low = restore_band(alloc, band, counts, kind)?;
     match kind {
         Kind::Intra => dc_add(&mut low),
         Kind::Inter => {}
     }
-    Ok(low)
+    low
 }
 
 /// Whether all bands have zeros alone.
@@ -87,26 +90,20 @@ pub fn level_of<'a>(
 /// The LL band after the synthesis of the first `levels` levels.
 pub fn low_after(
     alloc: Global,
-    transform: &Transform,
-    kind: Kind,
-    bands: &[CodedBand],
-    width: u32,
-    height: u32,
+    plane: &CodedPlane<'_, '_>,
     levels: u8,
 ) -> Result<Residual, NoMemory>
-    requires wavelet { IsWavelet transform.now.wavelet }
-    requires depth { IsDepth transform.now.depth }
-    requires levels { length transform.now.counts ≡ transform.now.depth + 1 }
-    requires across { (1 ≤ width) × (width ≤ LARGEST_TABLE_SIDE) }
-    requires down { (1 ≤ height) × (height ≤ LARGEST_TABLE_SIDE) }
-    requires bands { AreRestorableBands transform.now width height bands.now }
-    requires first { levels ≤ transform.now.depth }
-    ensures { IfOk result (IsLow transform.now kind bands.now width height levels) }
+    requires plane { IsRestorablePlane plane.now }
+    requires first { levels ≤ plane.now.transform.now.depth }
+    ensures { IfOk result (IsLowOf plane.now levels) }
 {
-    let lowest = lowest_band(alloc, &bands[0], transform.counts.at(0), kind)?;
+    let bands = plane.bands;
+    let counts = plane.transform.counts.at(0);
+    let restored = restore_band(alloc, &bands[0], counts, plane.kind)?;
+    let lowest = summed_up(restored, plane.kind);
     let mut low = Residual::try_of(alloc, lowest)?;
     for n in 0..levels as usize {
-        let level = level_of(transform, kind, bands, n);
+        let level = level_of(plane.transform, plane.kind, bands, n);
         let next = next_level(alloc, level.by, &low, level.bands)?;
         low = next;
     }
@@ -136,7 +133,13 @@ pub fn plane_residual(
     if have_zeros_alone(bands) {
         return Residual::try_zeros(alloc, width, height);
     }
-    let depth = transform.depth;
-    let low = low_after(alloc, transform, kind, bands, width, height, depth)?;
+    let plane = CodedPlane {
+        transform,
+        kind,
+        bands,
+        width,
+        height,
+    };
+    let low = low_after(alloc, &plane, transform.depth)?;
     cut_off(alloc, low, width, height)
 }

@@ -4,6 +4,7 @@ ghost use Rattle.std.specs.List.{All};
 ghost use Rattle.dirac_common.specs.Limits.{IsDepth, IsWavelet};
 ghost use Rattle.dirac_synthesis.specs.Fits.{AreRestorableBands};
 ghost use Rattle.dirac_synthesis.specs.Levels.{IsLevel, next_low};
+ghost use Rattle.dirac_synthesis.specs.Planes.{IsRestorablePlane};
 ghost use Rattle.dirac_synthesis.specs.Residual.{cut, residual, rows_between};
 ghost use Rattle.dirac_synthesis.specs.Unfinished.{CanMakeRows, IsUnfinishedPart, part_table};
 ghost use Rattle.dirac_synthesis.specs.Zeros.{zeros};
@@ -14,7 +15,7 @@ use crate::held::Residual;
 use crate::last::{LastLevel, last_rows};
 use crate::levels::next_level;
 use crate::narrow::are_narrow;
-use crate::plane::{have_zeros_alone, level_of, low_after, plane_residual};
+use crate::plane::{CodedPlane, have_zeros_alone, level_of, low_after};
 use dirac_coeffs::CodedBand;
 use dirac_common::{Kind, LARGEST_TABLE_SIDE, NoMemory};
 use dirac_lift::{Held, is_narrow};
@@ -107,31 +108,21 @@ fn part_before<'a>(
 }
 
 /// The levels of a residual but the last, where there is one.
-fn first_part<'a>(
-    alloc: Global,
-    transform: &Transform,
-    kind: Kind,
-    bands: &'a [CodedBand],
-    width: u32,
-    height: u32,
-) -> Result<Part<'a>, NoMemory>
-    requires wavelet { IsWavelet transform.now.wavelet }
-    requires depth { IsDepth transform.now.depth }
-    requires levels { length transform.now.counts ≡ transform.now.depth + 1 }
-    requires across { (1 ≤ width) × (width ≤ LARGEST_TABLE_SIDE) }
-    requires down { (1 ≤ height) × (height ≤ LARGEST_TABLE_SIDE) }
-    requires bands { AreRestorableBands transform.now width height bands.now }
-    ensures value { IfOk result (λ p. part_table p ≡ residual transform.now kind bands.now width height) }
+fn first_part<'a>(alloc: Global, plane: &CodedPlane<'_, 'a>) -> Result<Part<'a>, NoMemory>
+    requires { IsRestorablePlane plane.now }
+    ensures value { IfOk result (λ p. part_table p ≡ residual plane.now.transform.now plane.now.kind plane.now.bands.now
+        plane.now.width plane.now.height) }
     ensures bound { IfOk result (λ p. All (λ v. unsigned_abs v ≤ 2 ^ 108) (part_table p).values) }
     ensures rows { IfOk result CanMakeRows }
 {
-    if have_zeros_alone(bands) {
-        let whole = plane_residual(alloc, transform, kind, bands, width, height)?;
+    let (width, height) = (plane.width, plane.height);
+    if have_zeros_alone(plane.bands) {
+        let whole = Residual::try_zeros(alloc, width, height)?;
         return Ok(Part::Whole(whole));
     }
-    let last = transform.depth - 1;
-    let low = low_after(alloc, transform, kind, bands, width, height, last)?;
-    let level = level_of(transform, kind, bands, last as usize);
+    let last = plane.transform.depth - 1;
+    let low = low_after(alloc, plane, last)?;
+    let level = level_of(plane.transform, plane.kind, plane.bands, last as usize);
     part_before(alloc, level, low, width, height)
 }
 
@@ -154,7 +145,14 @@ pub fn unfinished_residual<'a>(
     requires bands { AreRestorableBands transform.now width height bands.now }
     ensures { IfOk result (λ u. u ≡ residual transform.now kind bands.now width height) }
 {
-    let part = first_part(alloc, transform, kind, bands, width, height)?;
+    let plane = CodedPlane {
+        transform,
+        kind,
+        bands,
+        width,
+        height,
+    };
+    let part = first_part(alloc, &plane)?;
     Ok(Unfinished { part })
 }
 
