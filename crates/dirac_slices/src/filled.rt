@@ -29,28 +29,6 @@ pub struct Parts {
     pub all: u32,
 }
 
-/// Writes rows `from` to `to` of the plane of this number, all at once.
-fn fill_strip(
-    making: &Making<'_, '_>,
-    plane: u32,
-    from: u32,
-    to: u32,
-    room: &mut [i16],
-) -> Result<(), NoMemory>
-    requires basis { IsBasis making.now.basis }
-    requires plane { plane < 3 }
-    requires some { from < to }
-    requires inside { to ≤ content.height_of (basis_sequence making.now.basis) (places.component_at plane) }
-    requires room { length room.old
-        ≡ content.width_of (basis_sequence making.now.basis) (places.component_at plane) * (to - from) }
-    ensures { IfOk result (λ _. room.new ≡ values_between (basis_sequence making.now.basis)
-        (planes_of making.now.basis) (places.component_at plane) from to) }
-{
-    let strip = samples_of(making, plane, from, to)?;
-    room.copy_from_slice(strip.values());
-    Ok(())
-}
-
 /// How many samples rows `from` to `to` of the plane of this number have.
 fn samples_in(making: &Making<'_, '_>, plane: u32, from: u32, to: u32) -> usize
     requires basis { IsBasis making.now.basis }
@@ -100,7 +78,9 @@ fn fill_rows(
         return Ok(());
     }
     if to - from <= STRIP_ROWS {
-        return fill_strip(making, plane, from, to, room);
+        let strip = samples_of(making, plane, from, to)?;
+        room.copy_from_slice(strip.values());
+        return Ok(());
     }
     let middle = from + (to - from) / 2;
     let (above, below) = room.split_at_mut(samples_above(making, plane, from, middle, to));
@@ -181,28 +161,8 @@ fn fill_part(
     fill_rows(making, plane, from, to, room)
 }
 
-/// Writes these parts of all planes, one plane after another, behind the gate.
-fn fill_planes<G: RowGate>(
-    gate: &G,
-    making: &Making<'_, '_>,
-    parts: Parts,
-    y: &mut [i16],
-    u: &mut [i16],
-    v: &mut [i16],
-) -> Result<(), NoMemory>
-    requires basis { IsBasis making.now.basis }
-    requires parts { AreSomeParts parts }
-    requires room { HaveRoom (basis_sequence making.now.basis) parts y.old u.old v.old }
-    ensures { IfOk result (λ _. AreFilled (basis_sequence making.now.basis) (planes_of making.now.basis) parts
-        y.new u.new v.new) }
-{
-    gate.enter(parts.first);
-    fill_part(making, 0, parts, y)?;
-    fill_part(making, 1, parts, u)?;
-    fill_part(making, 2, parts, v)
-}
-
-/// Writes these parts of all planes, each part by a worker, in threads of their own where threads can be had.
+/// Writes these parts of all planes, each part by a worker, in threads of their own where threads can be had. A worker
+/// goes through the gate before its part.
 fn fill_parts<R: Threads + Sync, G: RowGate>(
     rt: &R,
     gate: &G,
@@ -219,7 +179,10 @@ fn fill_parts<R: Threads + Sync, G: RowGate>(
         y.new u.new v.new) }
 {
     if parts.end - parts.first == 1 {
-        return fill_planes(gate, making, parts, y, u, v);
+        gate.enter(parts.first);
+        fill_part(making, 0, parts, y)?;
+        fill_part(making, 1, parts, u)?;
+        return fill_part(making, 2, parts, v);
     }
     let (front, back) = halves(parts);
     let (y_front, y_back) = y.split_at_mut(room_before(making, 0, parts, front));

@@ -124,34 +124,6 @@ pub(crate) fn samples_at(
     clipped(alloc, &rows)
 }
 
-/// An intra picture whose planes are made in parts, side by side.
-fn parted_picture<R: Threads + Sync, G: RowGate>(
-    rt: &R,
-    alloc: Global,
-    number: u32,
-    intra: &Intra<'_>,
-    workers: u32,
-    gate: &G,
-) -> Result<Picture, NoMemory>
-    requires intra { IsIntra intra.now }
-    requires workers { (1 ≤ workers) × (workers ≤ 64) }
-    ensures { IfOk result (λ p. p ≡ record {
-      number = number;
-      y = planes_of intra.now (places.component_at 0);
-      u = planes_of intra.now (places.component_at 1);
-      v = planes_of intra.now (places.component_at 2);
-    }) }
-{
-    let residuals = unfinished_rows(rt, alloc, intra, workers, gate)?;
-    let basis = Basis::Intra(IntraBasis {
-        intra,
-        residuals: residuals.as_slice(),
-    });
-    let room = picture_room(alloc, intra.sequence)?;
-    let making = Making { alloc, basis };
-    filled_picture(rt, gate, &making, number, room, workers)
-}
-
 /// An intra picture, made by workers: plane by plane where it is small, else part by part.
 pub(crate) fn intra_picture<R: Threads + Sync, G: RowGate>(
     rt: &R,
@@ -174,5 +146,12 @@ pub(crate) fn intra_picture<R: Threads + Sync, G: RowGate>(
         let planes = plane_rows(rt, alloc, intra, workers, gate)?;
         return Ok(assembled(number, planes));
     }
-    parted_picture(rt, alloc, number, intra, workers, gate)
+    let residuals = unfinished_rows(rt, alloc, intra, workers, gate)?;
+    let basis = Basis::Intra(IntraBasis {
+        intra,
+        residuals: residuals.as_slice(),
+    });
+    let room = picture_room(alloc, intra.sequence)?;
+    let making = Making { alloc, basis };
+    filled_picture(rt, gate, &making, number, room, workers)
 }
