@@ -123,34 +123,6 @@ fn write_coefficients(
     }
 }
 
-/// Writes a coded picture, up to a byte's end: picture parsing, Dirac specification. After want of memory a part may
-/// stand.
-fn write_picture(
-    alloc: Global,
-    w: &mut BitWriter,
-    sequence: &Sequence,
-    index: u32,
-    precision: u32,
-    coded: &CodedPicture,
-    texts: &Texts,
-) -> Result<(), NoMemory>
-    requires sequence { IsSequence sequence.now }
-    requires index { (2 ≤ index) × (index ≤ 4) }
-    requires precision { precision ≤ 3 }
-    requires references { HasReferences coded.now.code coded.now.header }
-    requires retires { MayRetire (is_reference coded.now.code) coded.now.header.number coded.now.header.retire }
-    requires written { IfSome coded.now.residual (IsWritten sequence.now) }
-    requires texts { IfSome coded.now.residual (λ r. AreTexts sequence.now r texts.now) }
-    ensures value { OnOk result (w.new ≡ up_to_byte (with_coded sequence.now index precision coded.now w.old)) }
-    ensures spelled { OnOk result (HasSpelledTable index precision coded.now.motion
-        (w.old ++ header_bits w.old coded.now.code coded.now.header)) }
-{
-    write_header(w, &coded.header, coded.code)?;
-    write_motion(alloc, w, index, precision, &coded.motion)?;
-    w.align()?;
-    write_coefficients(w, sequence, coded.code, &coded.residual, texts)
-}
-
 /// The payload of a coded picture of this sequence, with this block index and precision, the bytes of its bands being
 /// these (picture parsing, Dirac specification).
 pub fn payload_bytes(
@@ -174,7 +146,10 @@ pub fn payload_bytes(
         (header_bits [] coded.now.code coded.now.header)) }
 {
     let mut w = BitWriter::new(alloc);
-    write_picture(alloc, &mut w, sequence, index, precision, coded, texts)?;
+    write_header(&mut w, &coded.header, coded.code)?;
+    write_motion(alloc, &mut w, index, precision, &coded.motion)?;
+    w.align()?;
+    write_coefficients(&mut w, sequence, coded.code, &coded.residual, texts)?;
     let bytes = w.finish()?;
     Ok(bytes)
 }
