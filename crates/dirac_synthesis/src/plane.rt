@@ -20,8 +20,7 @@ use dirac_common::{Kind, LARGEST_SIDE, LARGEST_TABLE_SIDE, NoMemory, Wide};
 use dirac_parameters::Transform;
 use std::alloc::Global;
 
-/// The coded bands of a plane, which stand in the order LL, then HL, LH and HH of levels 1 to the transform's depth, and
-/// its size.
+/// The coded bands of a plane, in the order LL, then HL, LH and HH of levels 1 to the transform's depth, and its size.
 #[derive(Clone, Copy)]
 pub struct CodedPlane<'t, 'a> {
     pub transform: &'t Transform,
