@@ -9,8 +9,8 @@ use Rattle.dirac_upconvert.specs.Rests.{AreRests}
 use Rattle.dirac_upconvert.specs.SubSamples.{AreAlternateSubSamples, bilinear, rounded}
 
 -- a position at most so many places across and down from the table's first one
-abbrev pub IsNear : ℕ → ℕ → Position → Type 0
-IsNear across down p = AreRests p.rests × (unsigned_abs p.across ≤ across) × (unsigned_abs p.down ≤ down)
+abbrev pub IsPositionNear : ℕ → ℕ → Position → Type 0
+IsPositionNear across down p = AreRests p.rests × (unsigned_abs p.across ≤ across) × (unsigned_abs p.down ≤ down)
 
 -- the sample that lies so many columns and rows, each of two places, behind a position
 abbrev pub sample_from : Table → Position → ℕ → ℕ → ℤ
@@ -36,6 +36,6 @@ abbrev pub AreWholeRows : ℕ → List ℤ → Type 0
 AreWholeRows width out = (1 ≤ width) × (length out % width ≡ 0) × (length out ≤ LARGEST_SIDE)
 
 -- two rows of one length, which hold that many samples on both sides
-abbrev pub AreInside : Sides → ℕ → List ℤ → List ℤ → Type 0
-AreInside s count above under =
+abbrev pub HoldSides : Sides → ℕ → List ℤ → List ℤ → Type 0
+HoldSides s count above under =
     (s.left + count ≤ length above) × (s.next + count ≤ length above) × (length under ≡ length above)

@@ -4,7 +4,7 @@ ghost use Rattle.std.specs.List.{All};
 ghost use Rattle.dirac_common.specs.Table.{clamped_at, table_at};
 ghost use Rattle.dirac_upconvert.specs.HalfSamples.{IsSample, half, half_at, half_behind};
 ghost use Rattle.dirac_upconvert.specs.Phases.{phase_at, place_in_row};
-ghost use Rattle.dirac_upconvert.specs.Positions.{AreSamplesByFour, IsNear, sample_from};
+ghost use Rattle.dirac_upconvert.specs.Positions.{AreSamplesByFour, IsPositionNear, sample_from};
 ghost use Rattle.dirac_upconvert.specs.SubSamples.{IsUp, Up, place_at, rest_at, sub_sample};
 
 use crate::half_sample::Around;
@@ -135,7 +135,7 @@ pub fn upconvert(alloc: Global, plane: &Plane) -> Result<UpPlane, NoMemory>
 
 /// Writes the samples from a position on, two columns and two rows apart: four rows of eight.
 fn eight_by_four(table: &Phases, from: Position, out: &mut [i16])
-    requires from { IsNear (2 ^ 33) (2 ^ 34) from }
+    requires from { IsPositionNear (2 ^ 33) (2 ^ 34) from }
     requires four_rows_of_eight { length out.old ≡ 32 }
     ensures { AreSamplesByFour table.now from out.new }
 {
@@ -151,7 +151,7 @@ fn eight_by_four(table: &Phases, from: Position, out: &mut [i16])
 fn whole_position(x: i64, y: i64) -> Position
     requires x { unsigned_abs x < 2 ^ 31 }
     requires y { unsigned_abs y < 2 ^ 32 }
-    ensures near { IsNear (2 ^ 33) (2 ^ 34) result }
+    ensures near { IsPositionNear (2 ^ 33) (2 ^ 34) result }
     ensures bits { result.rests.bits ≡ 0 }
     ensures right { result.rests.right ≡ pos 0 }
     ensures below { result.rests.below ≡ pos 0 }
@@ -176,7 +176,7 @@ fn part_position(bits: u32, x: i64, y: i64) -> Position
     requires bits { bits ≤ 2 }
     requires x { unsigned_abs x < 2 ^ 31 }
     requires y { unsigned_abs y < 2 ^ 32 }
-    ensures near { IsNear (2 ^ 33) (2 ^ 34) result }
+    ensures near { IsPositionNear (2 ^ 33) (2 ^ 34) result }
     ensures bits { result.rests.bits ≡ bits }
     ensures right { result.rests.right ≡ rest_at x bits }
     ensures below { result.rests.below ≡ rest_at y bits }
@@ -201,7 +201,7 @@ fn position_of(precision: u8, x: i64, y: i64) -> Position
     requires precision { precision ≤ 3 }
     requires x { unsigned_abs x < 2 ^ 31 }
     requires y { unsigned_abs y < 2 ^ 32 }
-    ensures near { IsNear (2 ^ 33) (2 ^ 34) result }
+    ensures near { IsPositionNear (2 ^ 33) (2 ^ 34) result }
     ensures samples { (u : Up) (j k : ℕ) → sample_from u.table result k j
         ≡ sub_sample u precision (x +ℤ pos (2 ^ precision * k)) (y +ℤ pos (2 ^ precision * j)) }
 {

@@ -3,8 +3,8 @@ ghost use Rattle.std.specs.Prelude.{unsigned_abs};
 ghost use Rattle.std.specs.Prelude.{length, slice_index_or};
 ghost use Rattle.dirac_upconvert.specs.HalfSamples.{IsSample};
 ghost use Rattle.dirac_upconvert.specs.Phases.{place_in_row};
-ghost use Rattle.dirac_upconvert.specs.Positions.{AreInside, AreSamplesByRows, AreSamplesFrom, AreWholeRows};
-ghost use Rattle.dirac_upconvert.specs.Positions.{IsNear, sample_from};
+ghost use Rattle.dirac_upconvert.specs.Positions.{AreSamplesByRows, AreSamplesFrom, AreWholeRows, HoldSides};
+ghost use Rattle.dirac_upconvert.specs.Positions.{IsPositionNear, sample_from};
 ghost use Rattle.dirac_upconvert.specs.Rests.{AreRests};
 ghost use Rattle.dirac_upconvert.specs.SubSamples.{AreAlternateSamples, IsRest, IsWithin, PutFrom};
 ghost use Rattle.dirac_upconvert.specs.SubSamples.{between_sides, bilinear, rounded, sum_of_four, mixed};
@@ -61,12 +61,12 @@ pub struct Position {
 /// The position so many rows of whole samples below another one.
 #[inline(always)]
 pub fn lower(from: Position, rows: usize) -> Position
-    requires from { IsNear (2 ^ 34) (2 ^ 34) from }
+    requires from { IsPositionNear (2 ^ 34) (2 ^ 34) from }
     requires rows { rows ≤ LARGEST_SIDE }
     ensures rests { result.rests ≡ from.rests }
     ensures across { result.across ≡ from.across }
     ensures down { result.down ≡ from.down +ℤ pos (2 * rows) }
-    ensures near { IsNear (2 ^ 34) (2 ^ 35) result }
+    ensures near { IsPositionNear (2 ^ 34) (2 ^ 35) result }
 {
     Position {
         rests: from.rests,
@@ -78,12 +78,12 @@ pub fn lower(from: Position, rows: usize) -> Position
 /// The position so many whole samples behind another one of its row.
 #[inline(always)]
 fn behind(from: Position, columns: usize) -> Position
-    requires from { IsNear (2 ^ 33) (2 ^ 34) from }
+    requires from { IsPositionNear (2 ^ 33) (2 ^ 34) from }
     requires columns { columns ≤ LARGEST_SIDE }
     ensures rests { result.rests ≡ from.rests }
     ensures across { result.across ≡ from.across +ℤ pos (2 * columns) }
     ensures down { result.down ≡ from.down }
-    ensures near { IsNear (2 ^ 34) (2 ^ 34) result }
+    ensures near { IsPositionNear (2 ^ 34) (2 ^ 34) result }
 {
     Position {
         rests: from.rests,
@@ -178,7 +178,7 @@ fn further(sides: Sides, count: usize) -> Sides
 #[inline(always)]
 fn all_between_rows(rests: Rests, above: &[i8], under: &[i8], sides: Sides, out: &mut [i16])
     requires rests { AreRests rests }
-    requires inside { AreInside sides (length out.old) above.now under.now }
+    requires inside { HoldSides sides (length out.old) above.now under.now }
     ensures { (k : ℕ) → k < length out.old → slice_index_or out.new k (pos 0)
         ≡ between_sides rests.bits rests.right rests.below above.now under.now (sides.left + k) (sides.next + k) }
 {
@@ -213,7 +213,7 @@ fn put_between(
     first: usize,
 )
     requires rests { AreRests rests }
-    requires inside { AreInside sides (length lanes.old) above.now under.now }
+    requires inside { HoldSides sides (length lanes.old) above.now under.now }
     requires lanes_inside { first + length lanes.old ≤ length out.old }
     ensures { PutFrom first (length lanes.old) (λ k. between_sides rests.bits rests.right rests.below above.now
         under.now (sides.left + k) (sides.next + k)) out.old out.new }
@@ -226,7 +226,7 @@ fn put_between(
 #[inline(always)]
 fn by_fours(rests: Rests, above: &[i8], under: &[i8], sides: Sides, out: &mut [i16])
     requires rests { AreRests rests }
-    requires inside { AreInside sides (length out.old) above.now under.now }
+    requires inside { HoldSides sides (length out.old) above.now under.now }
     requires at_least_4 { 4 ≤ length out.old }
     requires at_most_8 { length out.old ≤ 8 }
     ensures { (k : ℕ) → k < length out.old → slice_index_or out.new k (pos 0)
@@ -251,7 +251,7 @@ fn by_fours(rests: Rests, above: &[i8], under: &[i8], sides: Sides, out: &mut [i
 #[inline(always)]
 fn by_eights(rests: Rests, above: &[i8], under: &[i8], sides: Sides, out: &mut [i16])
     requires rests { AreRests rests }
-    requires inside { AreInside sides (length out.old) above.now under.now }
+    requires inside { HoldSides sides (length out.old) above.now under.now }
     requires at_least_8 { 8 ≤ length out.old }
     ensures { (k : ℕ) → k < length out.old → slice_index_or out.new k (pos 0)
         ≡ between_sides rests.bits rests.right rests.below above.now under.now (sides.left + k) (sides.next + k) }
@@ -285,7 +285,7 @@ fn by_eights(rests: Rests, above: &[i8], under: &[i8], sides: Sides, out: &mut [
 #[inline(always)]
 fn in_lanes(rests: Rests, above: &[i8], under: &[i8], sides: Sides, out: &mut [i16])
     requires rests { AreRests rests }
-    requires inside { AreInside sides (length out.old) above.now under.now }
+    requires inside { HoldSides sides (length out.old) above.now under.now }
     ensures { (k : ℕ) → k < length out.old → slice_index_or out.new k (pos 0)
         ≡ between_sides rests.bits rests.right rests.below above.now under.now (sides.left + k) (sides.next + k) }
 {
@@ -418,7 +418,7 @@ fn clamped_part(table: &Phases, rests: Rests, across: i64, down: i64) -> i16
 
 /// The samples from a position on, two columns apart, of which some may lie outside.
 fn clamped_parts(table: &Phases, from: Position, out: &mut [i16])
-    requires from { IsNear (2 ^ 34) (2 ^ 35) from }
+    requires from { IsPositionNear (2 ^ 34) (2 ^ 35) from }
     requires at_most_4096 { length out.old ≤ LARGEST_SIDE }
     ensures { AreSamplesFrom table.now from out.new }
 {
@@ -443,7 +443,7 @@ fn sides_of(places: usize, x: usize) -> Sides
 /// The samples from a position on, two columns apart, where all lie inside the row.
 #[inline(always)]
 fn inner_parts(table: &Phases, from: Position, out: &mut [i16])
-    requires from { IsNear (2 ^ 34) (2 ^ 35) from }
+    requires from { IsPositionNear (2 ^ 34) (2 ^ 35) from }
     requires inside { (pos 0 ≤ℤ from.across) × ((from.across +ℤ pos (2 * length out.old)) ≤ℤ pos table.now.width) }
     ensures { AreSamplesFrom table.now from out.new }
 {
@@ -461,7 +461,7 @@ fn inner_parts(table: &Phases, from: Position, out: &mut [i16])
 /// The samples from a position on, two columns apart.
 #[inline(always)]
 pub fn row_parts(table: &Phases, from: Position, out: &mut [i16])
-    requires from { IsNear (2 ^ 34) (2 ^ 35) from }
+    requires from { IsPositionNear (2 ^ 34) (2 ^ 35) from }
     requires at_most_4096 { length out.old ≤ LARGEST_SIDE }
     ensures { AreSamplesFrom table.now from out.new }
 {
@@ -477,7 +477,7 @@ pub fn row_parts(table: &Phases, from: Position, out: &mut [i16])
 /// Writes the samples from a position on, two columns and two rows apart, into eight columns of rows of `width`, from
 /// column `first` on.
 fn eight_columns(table: &Phases, from: Position, width: usize, first: usize, out: &mut [i16])
-    requires from { IsNear (2 ^ 34) (2 ^ 34) from }
+    requires from { IsPositionNear (2 ^ 34) (2 ^ 34) from }
     requires columns { first + 8 ≤ width }
     requires at_most_4096 { length out.old ≤ LARGEST_SIDE }
     ensures eight { (j k : ℕ) → j < length out.old / width → k < 8 → slice_index_or out.new (j * width + (first + k))
@@ -503,7 +503,7 @@ fn are_cut_eights(table: &Phases, across: i64, width: usize) -> bool
 /// The samples from a position on, two columns and two rows apart: rows of eights of them, so that each eight that lies
 /// inside is read as one.
 fn columns_of_parts(table: &Phases, from: Position, width: usize, out: &mut [i16])
-    requires from { IsNear (2 ^ 33) (2 ^ 34) from }
+    requires from { IsPositionNear (2 ^ 33) (2 ^ 34) from }
     requires eights { width % 8 ≡ 0 }
     requires width_at_most_4096 { width ≤ LARGEST_SIDE }
     requires rows { AreWholeRows width out.old }
@@ -516,7 +516,7 @@ fn columns_of_parts(table: &Phases, from: Position, width: usize, out: &mut [i16
 
 /// The samples from a position on, two columns and two rows apart, row by row.
 fn whole_rows_of_parts(table: &Phases, from: Position, width: usize, out: &mut [i16])
-    requires from { IsNear (2 ^ 33) (2 ^ 34) from }
+    requires from { IsPositionNear (2 ^ 33) (2 ^ 34) from }
     requires rows { AreWholeRows width out.old }
     ensures { AreSamplesByRows table.now from width out.new }
 {
@@ -529,7 +529,7 @@ fn whole_rows_of_parts(table: &Phases, from: Position, width: usize, out: &mut [
 /// The samples from a position on, two columns and two rows apart: rows of `width`. Rows that lie inside the table's
 /// rows are read whole.
 pub fn rows_of_parts(table: &Phases, from: Position, width: usize, out: &mut [i16])
-    requires from { IsNear (2 ^ 33) (2 ^ 34) from }
+    requires from { IsPositionNear (2 ^ 33) (2 ^ 34) from }
     requires rows { AreWholeRows width out.old }
     ensures { AreSamplesByRows table.now from width out.new }
 {
