@@ -123,18 +123,13 @@ fn coded_unfinished<'a>(
 }
 
 /// A residual of zeros.
-fn zero_unfinished<'a>(
-    alloc: Global,
-    sequence: &Sequence,
-    kind: Kind,
-    component: Component,
-) -> Result<Unfinished<'a>, NoMemory>
+fn zero_unfinished<'a>(sequence: &Sequence, kind: Kind, component: Component) -> Unfinished<'a>
     requires { IsSequence sequence.now }
-    ensures { IfOk result (λ u. u ≡ content.residual_among sequence.now kind component None) }
+    ensures { result ≡ content.residual_among sequence.now kind component None }
 {
     let width = width_of(sequence, component);
     let height = height_of(sequence, component);
-    Unfinished::try_zeros(alloc, width, height)
+    Unfinished::of_zeros(width, height)
 }
 
 /// The residual of a plane, of which the last level waits until rows are asked for; where none is coded it is 0.
@@ -150,7 +145,7 @@ pub fn unfinished_of<'a>(
     ensures { IfOk result (λ u. u ≡ content.residual_among sequence.now kind component residual.now) }
 {
     match residual {
-        None => zero_unfinished(alloc, sequence, kind, component),
+        None => Ok(zero_unfinished(sequence, kind, component)),
         Some(residual) => coded_unfinished(alloc, sequence, kind, component, residual),
     }
 }

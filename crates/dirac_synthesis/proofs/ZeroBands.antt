@@ -1,14 +1,16 @@
 -- Bands of zeros stand for a residual of zeros.
-use Rattle.std.proofs.Common.{◌≡◌, ℕ, zero, suc, ℤ, pos, negsuc, ◌+◌, ◌-◌, ◌*◌, ◌/◌, ◌%◌, ◌^◌, ◌≤◌, ◌==◌, ◌+ℤ◌, if◌then◌else◌, Bool, true, false, List, [], ◌∷◌, ◌++◌, Option, None, Some, length, get_or, unsigned_abs, refl, sym, ap, ap₂, ◌∙◌, arith}
+use Rattle.std.proofs.Common.{◌≡◌, ℕ, zero, suc, ℤ, pos, negsuc, ◌+◌, ◌-◌, ◌*◌, ◌/◌, ◌%◌, ◌^◌, ◌≤◌, ◌==◌, ◌+ℤ◌, if◌then◌else◌, Bool, true, false, List, [], ◌∷◌, ◌++◌, Option, None, Some, length, get_or, unsigned_abs, refl, sym, ap, ap₂, ◌∙◌, arith, map}
 use Rattle.std.specs.List.{All}
 use Rattle.std.specs.Prelude.{replicate, slice_get}
+use Rattle.std.proofs.Math.IntN.{+ℤ_idl}
 use Rattle.std.proofs.lemmas.Bool.{and_parts}
-use Rattle.std.proofs.lemmas.List.{ext_get_or, length-replicate}
+use Rattle.std.proofs.lemmas.List.{ext_get_or, length-map, length-replicate}
 use Rattle.std.proofs.lemmas.List.FromFn.{length-map-range_with_len}
-use Rattle.dirac_common.specs.Samples.{mean_of_three}
+use Rattle.std.proofs.lemmas.Simd.{zip2_splat_left}
+use Rattle.dirac_common.specs.Samples.{clip, mean_of_three}
 use Rattle.dirac_common.specs.declared.formats.Kind.{Kind}
 use Rattle.dirac_common.specs.declared.formats.Kind.TheVariants.{Intra, Inter}
-use Rattle.dirac_common.specs.Table.{Table, filled, table_at}
+use Rattle.dirac_common.specs.Table.{Table, filled, table_at, with_values}
 use Rattle.dirac_quant.specs.Quantiser.{restored}
 use Rattle.dirac_bands.specs.DcSum.{prediction_in, sums_up_to, value_at}
 use Rattle.dirac_bands.specs.Geometry.{level_of}
@@ -18,9 +20,10 @@ use Rattle.dirac_coeffs.specs.declared.layout.CodedBand.{CodedBand}
 use Rattle.dirac_coeffs.specs.Contexts.{is_zero}
 use Rattle.dirac_coeffs.specs.Written.{is_zero_band}
 use Rattle.dirac_lift.specs.Zeros.{AreZeros}
+use Rattle.dirac_lift.proofs.LevelLemmas.{lent_is}
 use Rattle.dirac_lift.proofs.ZerosKept.{ReadsZeros, filled_zeros, level_zeros, read_zeros, zeros_read}
 use Rattle.dirac_synthesis.specs.Codeblocks.{index_in, restored_band}
-use Rattle.dirac_synthesis.specs.Residual.{after_levels, residual, restored_among, restored_at, summed}
+use Rattle.dirac_synthesis.specs.Residual.{after_levels, clipped, residual, restored_among, restored_at, rows_between, summed, summed_with, with_prediction}
 use Rattle.dirac_synthesis.specs.Zeros.{ZerosStandForZeros, are_zero_bands, zeros}
 
 zero_is : (x : ℤ) → is_zero x ≡ true → x ≡ pos 0
@@ -107,6 +110,11 @@ pub length-filled : (w h : ℕ) (f : ℕ → ℕ → ℤ) → length (filled w h
 unfolding filled
 length-filled w h f = length-map-range_with_len (λ p. f (p % w) (p / w)) 0 (w * h)
 
+zeros_filled : (w h : ℕ) (f : ℕ → ℕ → ℤ) → ReadsZeros (filled w h f) → record { width = w; height = h; values = filled w h f } ≡ zeros w h
+zeros_filled w h f all =
+    ap (λ (values : List ℤ). record { width = w; height = h; values = values })
+    (ext_get_or (pos 0) (filled w h f) (replicate (w * h) (pos 0)) (length-filled w h f ∙ sym (length-replicate (w * h) (pos 0))) (λ i l. all i ∙ sym (replicated (w * h) i)))
+
 residual_zeros : (t : Transform) (kind : Kind) (bands : List CodedBand) (w h : ℕ)
     → ((counts : ℕ × ℕ) (k : ℕ) → ReadsZeros (restored_among kind counts (slice_get bands k)).values) → residual t kind bands w h ≡ zeros w h
 residual_zeros t kind bands w h e =
@@ -127,3 +135,39 @@ pub zeros_bound : (w h : ℕ) → All (λ v. unsigned_abs v ≤ 2 ^ 108) (zeros 
 zeros_bound w h k d l =
     let e = read_zeros (replicate (w * h) (pos 0)) (replicated (w * h)) k d l in
     rw e (omega arith)
+
+-- ---- planes of zeros
+
+-- rows of one are one
+pub zeros_between : (from to w h : ℕ) → rows_between from to (zeros w h) ≡ zeros w (to - from)
+zeros_between from to w h =
+    let f = λ (x y : ℕ). table_at (zeros w h) x (from + y) in
+    zeros_filled w (to - from) f (filled_zeros w (to - from) f (λ x y. replicated (w * h) ((from + y) * w + x)))
+
+-- one is clipped to itself
+clipped_zeros : (n : ℕ) → map clip (replicate n (pos 0)) ≡ replicate n (pos 0)
+clipped_zeros zero = refl
+clipped_zeros (suc n) = ap (λ (xs : List ℤ). pos 0 ∷ xs) (clipped_zeros n)
+
+pub zeros_clipped : (w h : ℕ) → clipped (zeros w h) ≡ zeros w h
+zeros_clipped w h = ap (λ (values : List ℤ). record { width = w; height = h; values = values }) (clipped_zeros (w * h))
+
+-- with what is predicted it is just that
+added_zero : (xs : List ℤ) → map (λ (v : ℤ). pos 0 +ℤ v) xs ≡ xs
+added_zero [] = refl
+added_zero (x ∷ xs) = ap₂ (λ (v : ℤ) (vs : List ℤ). v ∷ vs) (+ℤ_idl x) (added_zero xs)
+
+summed_zeros : (n : ℕ) (xs : List ℤ) → length xs ≡ n → summed_with (replicate n (pos 0)) xs ≡ xs
+summed_zeros n xs is = zip2_splat_left (λ (v other : ℤ). v +ℤ other) (pos 0) n xs is ∙ added_zero xs
+
+zeros_summed : (w h : ℕ) (predicted : List ℤ) → length predicted ≡ w * h
+    → with_prediction (zeros w h) predicted ≡ record { width = w; height = h; values = predicted }
+zeros_summed w h predicted is = ap (λ (values : List ℤ). record { width = w; height = h; values = values }) (summed_zeros (w * h) predicted is)
+
+-- the samples of one are what is predicted, clipped
+pub predicted_alone : (w h : ℕ) (t : Table) (predicted samples : List ℤ) → t ≡ zeros w h → samples ≡ map clip predicted → length predicted ≡ w * h
+    → with_values t samples ≡ clipped (with_prediction (zeros w h) predicted)
+predicted_alone w h t predicted samples plane is len =
+    let long : length samples ≡ length (zeros w h).values = ap length is ∙ length-map predicted clip ∙ len ∙ sym (length-replicate (w * h) (pos 0)) in
+    ap (λ (x : Table). with_values x samples) plane ∙ lent_is (zeros w h) samples (map clip predicted) long is
+    ∙ sym (ap clipped (zeros_summed w h predicted len))

@@ -4,16 +4,19 @@ use Rattle.std.specs.List.{All}
 use Rattle.dirac_common.specs.declared.limits.TheConstants.{LARGEST_TABLE_SIDE}
 use Rattle.dirac_common.specs.Table.{Table}
 use Rattle.dirac_synthesis.specs.declared.unfinished.Part.{Part}
-use Rattle.dirac_synthesis.specs.declared.unfinished.Part.TheVariants.{Lines, Whole}
+use Rattle.dirac_synthesis.specs.declared.unfinished.Part.TheVariants.{Lines, Whole, Zeros}
 use Rattle.dirac_synthesis.specs.LastLevel.{IsLastLevel, last_residual}
+use Rattle.dirac_synthesis.specs.Zeros.{zeros}
 
 -- the residual that it comes to
 abbrev pub part_table : Part → Table
+part_table (Zeros extent) = zeros extent.width extent.height
 part_table (Whole t) = t
 part_table (Lines l) = last_residual l
 
 -- rows of a last level that waits can be made
 abbrev pub CanMakeRows : Part → Type 0
+CanMakeRows (Zeros extent) = Unit {0}
 CanMakeRows (Whole t) = Unit {0}
 CanMakeRows (Lines l) = IsLastLevel l
 

@@ -96,20 +96,13 @@ fn clip_sums(residual: &[i128], predicted: &[i32], samples: &mut [i16])
     }
 }
 
-/// The same of a value in 64 bits.
-#[inline(always)]
-fn clip_long_value(long: i64) -> i16
-    ensures { result ≡ clip long }
-{
-    long.min(127).max(-128) as i16
-}
-
-/// A residual in 32 bits plus a predicted value, clipped to the range of samples.
+/// A residual in 32 bits plus a predicted value, clipped to the range of samples: a sum that 32 bits don't hold lies
+/// beyond it on the same side as the nearest one that they hold.
 #[inline(always)]
 fn clip_narrow_sum(residual: i32, predicted: i32) -> i16
     ensures { result ≡ clip (residual +ℤ predicted) }
 {
-    clip_long_value(i64::from(residual) + i64::from(predicted))
+    clip_narrow_value(residual.saturating_add(predicted))
 }
 
 /// Writes the sum at one place, in 32 bits.

@@ -4,10 +4,11 @@ ghost use Rattle.dirac_synthesis.specs.LastLevel.{HasMade, IsLastLevel, last_res
 ghost use Rattle.dirac_synthesis.specs.Residual.{clipped as clipped_table, with_prediction};
 ghost use Rattle.dirac_synthesis.specs.Strips.{AreAsMany, AreEnough, clipped_with, with_others};
 ghost use Rattle.dirac_synthesis.specs.Unfinished.{IsUnfinishedPart, part_table};
+ghost use Rattle.dirac_synthesis.specs.Zeros.{zeros};
 
 use crate::clip::{clip_narrow_sums, clip_narrow_values, clipped, clipped_sum};
 use crate::last::{LastLevel, lines_of};
-use crate::unfinished::{Part, Unfinished};
+use crate::unfinished::{Extent, Part, Unfinished};
 use dirac_common::{LARGEST_TABLE_SIDE, NoMemory, Plane};
 use dirac_lift::LinesAtWork;
 use std::alloc::Global;
@@ -85,6 +86,19 @@ fn clip_level(alloc: Global, level: &LastLevel<'_>, others: Others) -> Result<Pl
     Ok(plane)
 }
 
+/// The samples of a plane whose residual is 0: what is predicted for them, clipped.
+fn clip_predicted(alloc: Global, extent: Extent, predicted: &[i32]) -> Result<Plane, NoMemory>
+    requires across { (1 ≤ extent.width) × (extent.width ≤ LARGEST_TABLE_SIDE) }
+    requires down { (1 ≤ extent.height) × (extent.height ≤ LARGEST_TABLE_SIDE) }
+    requires predicted { length predicted.now ≡ extent.width * extent.height }
+    ensures { IfOk result (λ plane. plane ≡ clipped_table (with_prediction (zeros extent.width extent.height)
+        predicted.now)) }
+{
+    let mut plane = Plane::try_new(alloc, extent.width, extent.height, 0)?;
+    clip_narrow_values(predicted, plane.values_mut());
+    Ok(plane)
+}
+
 /// The samples of a plane of whose residual something is made.
 fn clip_part(alloc: Global, part: &Part<'_>, others: Others) -> Result<Plane, NoMemory>
     requires part { IsUnfinishedPart part.now }
@@ -92,6 +106,10 @@ fn clip_part(alloc: Global, part: &Part<'_>, others: Others) -> Result<Plane, No
     ensures { IfOk result (λ plane. plane ≡ clipped_table (with_others others.entry (part_table part.now))) }
 {
     match part {
+        Part::Zeros(extent) => match others {
+            Others::Nothing => Plane::try_new(alloc, extent.width, extent.height, 0),
+            Others::Predicted(values) => clip_predicted(alloc, *extent, values),
+        },
         Part::Whole(residual) => match others {
             Others::Nothing => clipped(alloc, residual),
             Others::Predicted(values) => clipped_sum(alloc, residual, values),

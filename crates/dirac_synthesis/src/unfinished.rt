@@ -23,9 +23,17 @@ use dirac_parameters::Transform;
 use std::alloc::Global;
 use std::marker::Model;
 
-/// What is made of a residual: all of it, or all levels but the last.
+/// How many columns and rows a plane has.
+#[derive(Clone, Copy, Drop)]
+pub struct Extent {
+    pub width: u32,
+    pub height: u32,
+}
+
+/// What is made of a residual: that it is 0 everywhere, all of it, or all levels but the last.
 #[derive(Drop)]
 pub enum Part<'a> {
+    Zeros(Extent),
     Whole(Residual),
     Lines(LastLevel<'a>),
 }
@@ -117,8 +125,7 @@ fn first_part<'a>(alloc: Global, plane: &CodedPlane<'_, 'a>) -> Result<Part<'a>,
 {
     let (width, height) = (plane.width, plane.height);
     if have_zeros_alone(plane.bands) {
-        let whole = Residual::try_zeros(alloc, width, height)?;
-        return Ok(Part::Whole(whole));
+        return Ok(Part::Zeros(Extent { width, height }));
     }
     let last = plane.transform.depth - 1;
     let low = low_after(alloc, plane, last)?;
@@ -164,6 +171,7 @@ fn rows_of_part(alloc: Global, part: &Part<'_>, from: u32, to: u32) -> Result<Re
     ensures { IfOk result (λ t. t ≡ rows_between from to (part_table part.now)) }
 {
     match part {
+        Part::Zeros(extent) => Residual::try_zeros(alloc, extent.width, to - from),
         Part::Whole(whole) => rows_of(alloc, whole, from, to),
         Part::Lines(level) => last_rows(alloc, level, from, to),
     }
@@ -171,15 +179,14 @@ fn rows_of_part(alloc: Global, part: &Part<'_>, from: u32, to: u32) -> Result<Re
 
 impl<'a> Unfinished<'a> {
     /// A residual of zeros.
-    pub fn try_zeros(alloc: Global, width: u32, height: u32) -> Result<Unfinished<'a>, NoMemory>
+    pub fn of_zeros(width: u32, height: u32) -> Unfinished<'a>
         requires across { (1 ≤ width) × (width ≤ LARGEST_TABLE_SIDE) }
         requires down { (1 ≤ height) × (height ≤ LARGEST_TABLE_SIDE) }
-        ensures { IfOk result (λ u. u ≡ zeros width height) }
+        ensures { result ≡ zeros width height }
     {
-        let whole = Residual::try_zeros(alloc, width, height)?;
-        Ok(Unfinished {
-            part: Part::Whole(whole),
-        })
+        Unfinished {
+            part: Part::Zeros(Extent { width, height }),
+        }
     }
 
     /// Lends what is made of it.

@@ -7,7 +7,7 @@ use Rattle.dirac_synthesis.proofs.Bounds.{cut_bound}
 use Rattle.dirac_synthesis.proofs.LevelBounds.{last_across, low_next, low_stands}
 use Rattle.dirac_synthesis.proofs.Maps.{ok_weaker}
 use Rattle.dirac_synthesis.proofs.Sizes.{end_bound}
-use Rattle.dirac_synthesis.proofs.ZeroBands.{zeros_bound, zeros_stand_in}
+use Rattle.dirac_synthesis.proofs.ZeroBands.{zeros_stand_in}
 use Rattle.dirac_synthesis.proofs.unfinished.first_part.Goals as goal
 
 pub part_before-requires : goal.part_before-requires
@@ -47,7 +47,4 @@ returns-clause-bound c =
 pub returns-then-have_zeros_alone-clause-value : goal.returns-then-have_zeros_alone-clause-value
 returns-then-have_zeros_alone-clause-value c =
     let p = c.args.plane.now in
-    c.in_ok-whole.ensures ∙ sym (zeros_stand_in p.transform.now p.kind p.bands.now p.width p.height (c.have_zeros_alone.ensures c.if-have_zeros_alone.true))
-
-pub returns-then-have_zeros_alone-clause-bound : goal.returns-then-have_zeros_alone-clause-bound
-returns-then-have_zeros_alone-clause-bound c = rw c.in_ok-whole.ensures (zeros_bound c.args.plane.now.width c.args.plane.now.height)
+    sym (zeros_stand_in p.transform.now p.kind p.bands.now p.width p.height (c.have_zeros_alone.ensures c.if-have_zeros_alone.true))
