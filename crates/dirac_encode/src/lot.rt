@@ -82,8 +82,8 @@ fn code_lot<R: Threads + Sync>(
     )
 }
 
-/// What is kept; where nothing is, a picture and those that wait behind it are coded. None where none waits: one picture
-/// is coded sooner by all workers; and where there is no memory for that many.
+/// What is kept; where nothing is, a picture and those that wait behind it are coded. None where none waits, since one
+/// picture is coded sooner by all workers, and where there is no memory for that many.
 fn lot_at_hand<R: Threads + Sync>(
     rt: &R,
     alloc: Global,

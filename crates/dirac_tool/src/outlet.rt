@@ -31,7 +31,7 @@ impl Write for Outlet {
 
 /// Where reconstructions go: to the file that the words name, which is made, or nowhere. What other commands say
 /// beside what comes out goes to standard error. Where standard output is closed there is no file, since it would be
-/// written to as standard output.
+/// written to as standard output. It hands a writer of the library on, of which nothing is claimed.
 pub fn beside(rt: &HostRuntime, words: &Words) -> Outcome<Outlet> {
     match recon_path(words) {
         Some(path) if takes_bytes(&mut rt.stdout()) => Ok(Outlet::File(File::create(rt, path)?)),
@@ -41,7 +41,8 @@ pub fn beside(rt: &HostRuntime, words: &Words) -> Outcome<Outlet> {
     }
 }
 
-/// Where texts go: to standard error, or nowhere, where that is closed.
+/// Where texts go: to standard error, or nowhere, where that is closed. It hands a writer of the library on, of which
+/// nothing is claimed.
 pub fn texts(rt: &HostRuntime) -> Outlet {
     if takes_bytes(&mut rt.stderr()) {
         Outlet::Stderr(rt.stderr())
