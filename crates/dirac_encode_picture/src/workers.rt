@@ -1,6 +1,6 @@
 //! The planes of a picture, made by one worker or by several.
 
-ghost use Rattle.std.specs.Prelude.{◌≡◌, IfOk, IfSome};
+ghost use Rattle.std.specs.Prelude.{◌≡◌, [], None, IfOk, IfSome};
 ghost use Rattle.dirac_picture.specs.Texts.{AreTexts};
 ghost use Rattle.dirac_content.specs.Content.{rebuilt};
 ghost use Rattle.dirac_encode_planes.specs.Analysing.{AreAnalysedPlanes, AreQuantisedBands, CanBeAnalysed};
@@ -49,6 +49,8 @@ pub(crate) trait Workers {
         requires from { IsFinishable from.now }
         ensures texts { IfOk result (λ f. IfSome from.now.coded.now.residual
             (λ r. AreTexts from.now.sequence.now r f.texts)) }
+        ensures none { from.now.coded.now.residual ≡ None → IfOk result (λ f. (f.texts.y.items ≡ [])
+            × (f.texts.u.items ≡ []) × (f.texts.v.items ≡ [])) }
         ensures shown { IfOk result (λ f. f.shown
             ≡ rebuilt from.now.sequence.now from.now.refs.now from.now.coded.now) };
 }
