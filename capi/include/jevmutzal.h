@@ -109,8 +109,8 @@ typedef struct jev_format {
 /* The version of the library, as JEV_VERSION is of the header: a caller that finds another number stops. */
 uint32_t jev_version(void);
 
-/* Opens a decoder at the beginning of a stream. An open one is closed first, with all that it held; where memory is
- * wanting it is as it was. JEV_OK or JEV_NO_MEMORY. */
+/* Opens a decoder at the beginning of a stream. One that was open is closed then, with all that it held; where memory
+ * is wanting it is as it was. JEV_OK or JEV_NO_MEMORY. */
 int32_t jev_decoder_open(jev_decoder *decoder);
 
 /* Sends the next bytes of the stream: any number, also 0, cut anywhere. They are copied, so `bytes` stays the caller's.
@@ -124,8 +124,8 @@ int32_t jev_decoder_finish(jev_decoder *decoder);
 
 /* What is next: JEV_PICTURE, JEV_NEEDS, JEV_END, JEV_FAULT, JEV_NO_MEMORY, JEV_STOPPED or JEV_CLOSED, of which `frame`
  * tells more. Pictures come in the order in which they are shown, all before the end or the fault. Whatever the pieces
- * that were sent, the answers but JEV_NEEDS are the same. It never waits, and takes units up to the next picture that
- * leaves. */
+ * that were sent, the answers but JEV_NEEDS and JEV_NO_MEMORY are the same. It never waits, and takes units up to the
+ * next picture that leaves. */
 int32_t jev_decoder_next(jev_decoder *decoder, jev_frame *frame);
 
 /* Copies a plane of the picture that the last next answered, 0 for Y, 1 for U (Cb), 2 for V (Cr), into `out`, of

@@ -100,7 +100,7 @@ pub fn put_pictures<
         (rule_of coder.now.budget) coder.now.settings.now held (S.held source.new)
         (K.taken out.old) (K.taken out.new) (N.taken side.old) (N.taken side.new)) }
     // Where a read failed, all that was due was written: of the whole pictures read no more are left than may wait, and
-    // none that can be coded yet.
+    // none that the planner gives while more may come.
     ensures due { result ≡ Encoded.ReadFault → IfSome (S.held source.old) (λ held. WritesDue
         (rule_of coder.now.budget) coder.now.settings.now held (S.held source.new)
         (K.taken out.old) (K.taken out.new) (N.taken side.old) (N.taken side.new)) }

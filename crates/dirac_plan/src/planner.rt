@@ -83,14 +83,14 @@ impl Planner {
         self.queue.len()
     }
 
-    /// Lends the picture at a place among those that wait; the oldest stands at place 0.
+    /// Lends the picture at a place among those that wait; the oldest stands at place 0, none behind the last.
     pub fn waiting_at(&self, place: usize) -> Option<&Picture>
         ensures { option_copied result ≡ slice_get self.now.waiting place }
     {
         self.queue.get(place)
     }
 
-    /// Whether `push` hands back any picture for now.
+    /// Whether `push` hands back for now whatever picture it is handed.
     pub fn is_closed(&self) -> bool
         ensures { result ≡ plannings.is_closed self.now }
     {

@@ -48,7 +48,8 @@ pub fn rate_stream<R: Threads + Sync, S: Source, K: Sink, N: Sink, G: RowGate>(
     // Whatever is answered, what was written is a front of the encoding of the bytes read by themselves.
     ensures front_of_read { IfSome (S.held source.old) (λ bytes. WritesFrontOfRead (fit budget) settings.now bytes
         (S.held source.new) (K.taken out.old) (K.taken out.new) (N.taken side.old) (N.taken side.new)) }
-    // Where a read failed, all that was due was written: of the whole pictures read no more are left than may wait.
+    // Where a read failed, all that was due was written: of the whole pictures read no more are left than may wait, and
+    // none that the planner gives while more may come.
     ensures due { result ≡ Encoded.ReadFault → IfSome (S.held source.old) (λ bytes. WritesDue
         (fit budget) settings.now bytes (S.held source.new)
         (K.taken out.old) (K.taken out.new) (N.taken side.old) (N.taken side.new)) }

@@ -15,7 +15,7 @@ pub record ArePredicted (s : Sequence) (refs : List Picture) (c : CodedPicture) 
   pub motion : c.motion ≡ Some x.motion
   pub planes : ArePredictions s (named refs c.header.ref1) (named refs c.header.ref2) x.motion x.predictions
 
--- a coded picture that can be written and rebuilt, with its predictions if it is predicted
+-- a coded picture that can be written and rebuilt, with its predictions where they are at hand
 pub record CanBeFinished (s : Sequence) (refs : List Picture) (c : CodedPicture) (o : Option Compensated) : Type 0 where
   pub rebuilt : CanBeRebuilt c s refs
   pub written : IfSome c.residual (IsWritten s)

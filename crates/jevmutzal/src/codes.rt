@@ -18,7 +18,7 @@ pub const NO_MEMORY: i32 = -2;
 pub const STOPPED: i32 = -3;
 /// The decoder is not open.
 pub const CLOSED: i32 = -4;
-/// No picture was given by the last call, or no sequence is known.
+/// No picture was given by the last call of next, or no sequence is known.
 pub const NO_PICTURE: i32 = -5;
 /// A row has no room in the stride, or the plane in the buffer.
 pub const SMALL: i32 = -6;
