@@ -17,7 +17,7 @@ use Rattle.dirac_content.specs.Shown.{Outcome, ends_with, with_front}
 use Rattle.dirac_decode.specs.Decoding.{BringsAlone, Decoding, LeadsTo, decoding, emptied}
 use Rattle.dirac_decode.specs.declared.step.Step.{Step}
 use Rattle.dirac_decode.specs.declared.step.Step.TheVariants as step
-use Rattle.dirac_decode.specs.Taking.{IsTook}
+use Rattle.dirac_decode.specs.Taking.{IsTakenAs}
 use Rattle.dirac_decode.specs.Advancing.{Advances, Brings}
 use Rattle.dirac_decode.proofs.Alone.{alone_none, alone_on, alone_part, alone_unit}
 use Rattle.dirac_decode.proofs.Passed.{passed_none, passed_on, passed_unit}
@@ -200,7 +200,7 @@ most_of true state = refl
 most_of false state = refl
 
 -- a unit's content brings what its step says
-pub brings_step : (step : Step) (unit : Unit) (units units' : CuttingProgress) (state state' : StreamState) (held held' : Option (List ℕ)) → GivesUnit true unit units units' held held' → IsTook (Ok step) (unit_step state unit.info.code unit.payload) state state' → Advances (Ok step) units units' state state' held held'
+pub brings_step : (step : Step) (unit : Unit) (units units' : CuttingProgress) (state state' : StreamState) (held held' : Option (List ℕ)) → GivesUnit true unit units units' held held' → IsTakenAs (Ok step) (unit_step state unit.info.code unit.payload) state state' → Advances (Ok step) units units' state state' held held'
 brings_step step.On unit units units' state state' held held' gives took =
     brings_on unit units units' state state' held held' [] gives (took.1 ∙ ap Ok took.2)
 brings_step (step.Shown p) unit units units' state state' held held' gives took =

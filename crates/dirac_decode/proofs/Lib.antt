@@ -1,4 +1,3 @@
-pub mod Doubling
 pub mod Leading
 pub mod Streaming
 pub mod Listing
@@ -12,3 +11,6 @@ pub mod Behind
 pub mod Found
 pub mod Counts
 pub mod Taken
+pub mod Between
+pub mod Lengthened
+pub mod Finishing

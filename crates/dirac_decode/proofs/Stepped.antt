@@ -13,7 +13,7 @@ use Rattle.dirac_decode.specs.declared.step.Step.{Step}
 use Rattle.dirac_decode.specs.Advancing.{TakesBy}
 use Rattle.dirac_decode.specs.Stepping.{FaultsAt, StepTakesUnit}
 use Rattle.dirac_content.specs.StreamState.{StreamState, StreamStep, unit_step}
-use Rattle.dirac_decode.specs.Taking.{IsTook, made_by}
+use Rattle.dirac_decode.specs.Taking.{IsTakenAs, made_by}
 use Rattle.dirac_content.proofs.Passing.{moved_text, text_of}
 
 -- ---- what one unit brought
@@ -29,7 +29,7 @@ taken_unit (Some bytes) known' unit unit_place unit_place' state made first next
   content = moved_text state unit bytes (Ok made) first.1 is;
 }
 
-pub takes_unit : (step : Step) (unit : Unit) (units units' : CuttingProgress) (state state' : StreamState) (held held' : Option (List ℕ)) → GivesUnit true unit units units' held held' → IsTook (Ok step) (unit_step state unit.info.code unit.payload) state state' → TakesBy (Ok step) units units' state state' held held'
+pub takes_unit : (step : Step) (unit : Unit) (units units' : CuttingProgress) (state state' : StreamState) (held held' : Option (List ℕ)) → GivesUnit true unit units units' held held' → IsTakenAs (Ok step) (unit_step state unit.info.code unit.payload) state state' → TakesBy (Ok step) units units' state state' held held'
 takes_unit step unit units units' state state' held held' gives took =
     taken_unit (prepend_known units.ahead held) (prepend_known units'.ahead held') unit units.unit_place units'.unit_place state (made_by step state') gives.told gives.next (took.1 ∙ ap Ok took.2)
 

@@ -1,7 +1,7 @@
 -- What was written of a stream, and what its decoding answers at the end.
 use Rattle.std.proofs.Common.{◌≡◌, ◌∙◌, ℕ, ◌+◌, ◌≤◌, List, [], ◌∷◌, ◌++◌, length, Option, None, Some, refl, sym, ap, subst, append_assoc, length-append}
 use Rattle.std.specs.Prelude.{IfSome}
-use Rattle.std.specs.Io.KnownBytes.{Appends, Consumes, IsAtEnd, prepend_known}
+use Rattle.std.specs.Io.KnownBytes.{Appends, Consumes, prepend_known}
 use Rattle.std.proofs.KnownBytes.{Appends-nil, Appends-trans}
 use Rattle.std.proofs.lemmas.List.{append-nil}
 use Rattle.dirac_common.specs.declared.faults.Fault.{Fault}
@@ -13,7 +13,6 @@ use Rattle.dirac_units.specs.declared.unit.StreamEnd.{StreamEnd}
 use Rattle.dirac_units.specs.declared.unit.StreamEnd.TheVariants as stream_end
 use Rattle.dirac_units.specs.Cut.{EachHasACut, IsCut, UnitText}
 use Rattle.dirac_units.specs.Progress.{CuttingProgress}
-use Rattle.dirac_refs.specs.declared.ref_buffer.TheConstants.{MOST_REFERENCES}
 use Rattle.dirac_content.specs.declared.tally.Tally.{Tally}
 use Rattle.dirac_decode.specs.declared.answers.Decoded.TheVariants as decoded
 use Rattle.dirac_decode.specs.declared.answers.Next.TheVariants as next
@@ -25,10 +24,9 @@ use Rattle.dirac_decode.proofs.Alone.{alone_on}
 use Rattle.dirac_decode.proofs.Passed.{passed_on}
 use Rattle.dirac_content.specs.Raw.{raw, raws}
 use Rattle.dirac_decode.specs.Decoded.{IsDecodedStream}
-use Rattle.dirac_decode.specs.Streamed.{CountsFaults, IsStreamWritten}
-use Rattle.dirac_decode.proofs.Counts.{room_begins}
+use Rattle.dirac_decode.specs.Streamed.{CountsFaults}
 use Rattle.dirac_content.proofs.Raws.{raws_front, raws_more}
-use Rattle.dirac_decode.proofs.Leading.{leads_same, not_stopped}
+use Rattle.dirac_decode.proofs.Leading.{leads_same}
 
 -- these pictures were given and written
 pub record IsStreamed (d : Decoding) (held held' taken taken' : Option (List ℕ)) : Type 0 where
@@ -38,7 +36,7 @@ pub record IsStreamed (d : Decoding) (held held' taken taken' : Option (List ℕ
   pub written : Appends taken taken' (raws given)
 
 -- none was
-streamed_none : (d : Decoding) (held taken : Option (List ℕ)) → d ≡ decoder_begun → IsStreamed d held held taken taken
+pub streamed_none : (d : Decoding) (held taken : Option (List ℕ)) → d ≡ decoder_begun → IsStreamed d held held taken taken
 streamed_none d held taken same = record {
   given = [];
   leads = leads_same decoder_begun d held same;
@@ -52,7 +50,7 @@ front_more given p o =
     ap make (sym (append_assoc given (p ∷ []) o.shown))
 
 -- one more was
-streamed_more : (d d' : Decoding) (p : Picture) (held held' held'' taken taken' taken'' : Option (List ℕ)) → IsStreamed d held held' taken taken' → Gives (next.Shown p) d d' held' held'' → Appends taken' taken'' (raw p) → IsStreamed d' held held'' taken taken''
+pub streamed_more : (d d' : Decoding) (p : Picture) (held held' held'' taken taken' taken'' : Option (List ℕ)) → IsStreamed d held held' taken taken' → Gives (next.Shown p) d d' held' held'' → Appends taken' taken'' (raw p) → IsStreamed d' held held'' taken taken''
 streamed_more d d' p held held' held'' taken taken' taken'' so gives written = record {
   given = so.given ++ p ∷ [];
   leads = record {
@@ -68,11 +66,11 @@ streamed_more d d' p held held' held'' taken taken' taken'' so gives written = r
 }
 
 -- what comes from the start on is what the stream shows
-comes_shown : (bytes : List ℕ) (o : Outcome) → Comes decoder_begun (Some bytes) o → IsShown bytes o
+pub comes_shown : (bytes : List ℕ) (o : Outcome) → Comes decoder_begun (Some bytes) o → IsShown bytes o
 comes_shown bytes o comes = subst (λ (x : Outcome). IsShown bytes x) (sym comes.same) comes.remains
 
 -- what comes behind an end or a fault
-abbrev closed : ℕ → Option Fault → Outcome
+abbrev pub closed : ℕ → Option Fault → Outcome
 closed most end = record { shown = []; most = most; end = end }
 
 closed_comes : (d : Decoding) (held : Option (List ℕ)) (end : Option Fault) → d.due ≡ [] → Remains d.stream_end d.state d.units held (closed d.state.most end) → Comes d held (closed d.state.most end)
@@ -93,14 +91,14 @@ ends_shown bytes given d d' held' held'' end leads last none remains =
 remains_ended : (d : Decoding) (held : Option (List ℕ)) → d.stream_end ≡ stream_end.Ended → Remains d.stream_end d.state d.units held (closed d.state.most None)
 remains_ended d held is = subst (λ (m : StreamEnd). Remains m d.state d.units held (closed d.state.most None)) (sym is) refl
 
-remains_faulted : (d : Decoding) (held : Option (List ℕ)) (fault : Fault) → d.stream_end ≡ stream_end.Faulted fault → Remains d.stream_end d.state d.units held (closed d.state.most (Some fault))
+pub remains_faulted : (d : Decoding) (held : Option (List ℕ)) (fault : Fault) → d.stream_end ≡ stream_end.Faulted fault → Remains d.stream_end d.state d.units held (closed d.state.most (Some fault))
 remains_faulted d held fault is = subst (λ (m : StreamEnd). Remains m d.state d.units held (closed d.state.most (Some fault))) (sym is) refl
 
 tally_is : (d d' : Decoding) (given : List Picture) (end : Option Fault) → d.given ≡ length given → d'.given ≡ d.given → tally d' ≡ tally_of (record { shown = given; most = d'.state.most; end = end })
 tally_is d d' given end counted same = ap (λ n. record { pictures = n; references = d'.state.most }) (same ∙ counted)
 
 -- the stream ended lawfully
-streamed_done : (d d' : Decoding) (held held' held'' taken taken' : Option (List ℕ)) → IsStreamed d held held' taken taken' → Gives next.End d d' held' held'' → IfSome held (λ bytes. IsDecodedStream bytes (decoded.Done (tally d')) taken taken')
+pub streamed_done : (d d' : Decoding) (held held' held'' taken taken' : Option (List ℕ)) → IsStreamed d held held' taken taken' → Gives next.End d d' held' held'' → IfSome held (λ bytes. IsDecodedStream bytes (decoded.Done (tally d')) taken taken')
 streamed_done d d' None held' held'' taken taken' so gives = tt
 streamed_done d d' (Some bytes) held' held'' taken taken' so gives = (
   record { shown = so.given; most = d'.state.most; end = None },
@@ -109,7 +107,7 @@ streamed_done d d' (Some bytes) held' held'' taken taken' so gives = (
 )
 
 -- the stream ended with a fault
-streamed_fault : (d d' : Decoding) (fault : Fault) (held held' held'' taken taken' : Option (List ℕ)) → IsStreamed d held held' taken taken' → Gives (next.Fault fault) d d' held' held'' → IfSome held (λ bytes. IsDecodedStream bytes (decoded.Fault fault (tally d')) taken taken')
+pub streamed_fault : (d d' : Decoding) (fault : Fault) (held held' held'' taken taken' : Option (List ℕ)) → IsStreamed d held held' taken taken' → Gives (next.Fault fault) d d' held' held'' → IfSome held (λ bytes. IsDecodedStream bytes (decoded.Fault fault (tally d')) taken taken')
 streamed_fault d d' fault None held' held'' taken taken' so gives = tt
 streamed_fault d d' fault (Some bytes) held' held'' taken taken' so gives = (
   record { shown = so.given; most = d'.state.most; end = Some fault },
@@ -139,7 +137,7 @@ comes_some d held cuts moving =
 abbrev IsCutOff : List ℕ → Option (List ℕ) → Option (List ℕ) → Type 0
 IsCutOff bytes taken taken' = (o : Outcome) × IsShown bytes o × AppendsFront taken taken' (raws o.shown)
 
-cut_off : (d : Decoding) (held held' taken taken' : Option (List ℕ)) → EachHasACut → (d.stream_end ≡ stream_end.Stopped → ⊥) → IsStreamed d held held' taken taken' → IfSome held (λ bytes. IsCutOff bytes taken taken')
+pub cut_off : (d : Decoding) (held held' taken taken' : Option (List ℕ)) → EachHasACut → (d.stream_end ≡ stream_end.Stopped → ⊥) → IsStreamed d held held' taken taken' → IfSome held (λ bytes. IsCutOff bytes taken taken')
 cut_off d None held' taken taken' cuts moving so = tt
 cut_off d (Some bytes) held' taken taken' cuts moving so =
     let later : (o : Outcome) × Comes d held' o = comes_some d held' cuts moving in (
@@ -149,7 +147,7 @@ cut_off d (Some bytes) held' taken taken' cuts moving so =
     )
 
 -- the same in the middle of a picture
-cut_off_in : (d d' : Decoding) (p : Picture) (held held' held'' taken taken' taken'' : Option (List ℕ)) → EachHasACut → (d.stream_end ≡ stream_end.Stopped → ⊥) → IsStreamed d held held' taken taken' → Gives (next.Shown p) d d' held' held'' → AppendsFront taken' taken'' (raw p) → IfSome held (λ bytes. IsCutOff bytes taken taken'')
+pub cut_off_in : (d d' : Decoding) (p : Picture) (held held' held'' taken taken' taken'' : Option (List ℕ)) → EachHasACut → (d.stream_end ≡ stream_end.Stopped → ⊥) → IsStreamed d held held' taken taken' → Gives (next.Shown p) d d' held' held'' → AppendsFront taken' taken'' (raw p) → IfSome held (λ bytes. IsCutOff bytes taken taken'')
 cut_off_in d d' p None held' held'' taken taken' taken'' cuts moving so gives front = tt
 cut_off_in d d' p (Some bytes) held' held'' taken taken' taken'' cuts moving so gives front =
     let later : (o : Outcome) × Comes d' held'' o = comes_some d' held'' cuts (λ e. moving (gives.2 e)) in
@@ -183,7 +181,7 @@ broken_in bytes d given known held' taken taken' p breaks written =
       delivered = subst (λ (ps : List Picture). Appends taken taken' (raws ps)) (sym all) written;
     }
 
-broken_off : (d : Decoding) (held held' held'' taken taken' : Option (List ℕ)) → IsStreamed d held held' taken taken' → BreaksOff d held' held'' → IfSome held (λ bytes. IsBrokenOff bytes held'' taken taken')
+pub broken_off : (d : Decoding) (held held' held'' taken taken' : Option (List ℕ)) → IsStreamed d held held' taken taken' → BreaksOff d held' held'' → IfSome held (λ bytes. IsBrokenOff bytes held'' taken taken')
 broken_off d None held' held'' taken taken' so breaks = tt
 broken_off d (Some bytes) held' held'' taken taken' so breaks =
     broken_in bytes d so.given (prepend_known d.units.ahead held') held'' taken taken' (so.leads.passed breaks.going) breaks.told so.written
@@ -198,12 +196,12 @@ remains_in_some stream_end.Ended c unit_place bytes cuts moving = (closed c.most
 remains_in_some (stream_end.Faulted fault) c unit_place bytes cuts moving = (closed c.most (Some fault), refl)
 remains_in_some stream_end.Stopped c unit_place bytes cuts moving = absurd (moving refl)
 
-comes_in_some : (d : Decoding) (bytes : List ℕ) → EachHasACut → (d.stream_end ≡ stream_end.Stopped → ⊥) → (o : Outcome) × ComesIn d bytes o
+pub comes_in_some : (d : Decoding) (bytes : List ℕ) → EachHasACut → (d.stream_end ≡ stream_end.Stopped → ⊥) → (o : Outcome) × ComesIn d bytes o
 comes_in_some d bytes cuts moving =
     let later : (o : Outcome) × RemainsIn d.stream_end d.state d.units.unit_place bytes o = remains_in_some d.stream_end d.state d.units.unit_place bytes cuts moving in
     (with_front d.due later.0, record { rest = later.0; same = refl; remains = later.1 })
 
-left_behind : (bytes part : List ℕ) (held' : Option (List ℕ)) → Consumes (Some bytes) held' part → (rest : List ℕ) × (held' ≡ Some rest) × (bytes ≡ part ++ rest)
+pub left_behind : (bytes part : List ℕ) (held' : Option (List ℕ)) → Consumes (Some bytes) held' part → (rest : List ℕ) × (held' ≡ Some rest) × (bytes ≡ part ++ rest)
 left_behind bytes part None is = absurd is
 left_behind bytes part (Some rest) is = (rest, refl, is)
 
@@ -234,11 +232,11 @@ none_taken : (ahead : List ℕ) (held : Option (List ℕ)) → ahead ≡ [] → 
 none_taken ahead None none = tt
 none_taken ahead (Some bytes) none = ap (λ (l : List ℕ). l ++ bytes) none
 
-written_front : (given : List Picture) (taken taken' : Option (List ℕ)) → Appends taken taken' (raws given) → (more : List Picture) → AppendsFront taken taken' (raws (given ++ more))
+pub written_front : (given : List Picture) (taken taken' : Option (List ℕ)) → Appends taken taken' (raws given) → (more : List Picture) → AppendsFront taken taken' (raws (given ++ more))
 written_front given taken taken' written more = (raws given, raws more, raws_front given more, written)
 
 -- while a picture was written
-written_in : (given : List Picture) (p : Picture) (taken taken' taken'' : Option (List ℕ)) → Appends taken taken' (raws given) → AppendsFront taken' taken'' (raw p) → (more : List Picture) → AppendsFront taken taken'' (raws ((given ++ p ∷ []) ++ more))
+pub written_in : (given : List Picture) (p : Picture) (taken taken' taken'' : Option (List ℕ)) → Appends taken taken' (raws given) → AppendsFront taken' taken'' (raw p) → (more : List Picture) → AppendsFront taken taken'' (raws ((given ++ p ∷ []) ++ more))
 written_in given p taken taken' taken'' written front more =
     let text : raws ((given ++ p ∷ []) ++ more) ≡ (raws given ++ front.0) ++ (front.1 ++ raws more) =
     raws_front (given ++ p ∷ []) more
@@ -246,7 +244,7 @@ written_in given p taken taken' taken'' written front more =
     ∙ append_assoc (raws given ++ front.0) front.1 (raws more) in
     (raws given ++ front.0, front.1 ++ raws more, text, Appends-trans taken taken' taken'' (raws given) front.0 written front.3)
 
-read_in : (d d' : Decoding) (p : Picture) (held held' held'' taken taken' taken'' : Option (List ℕ)) → EachHasACut → (d.stream_end ≡ stream_end.Stopped → ⊥) → d'.units.ahead ≡ [] → IsStreamed d held held' taken taken' → Gives (next.Shown p) d d' held' held'' → AppendsFront taken' taken'' (raw p)
+pub read_in : (d d' : Decoding) (p : Picture) (held held' held'' taken taken' taken'' : Option (List ℕ)) → EachHasACut → (d.stream_end ≡ stream_end.Stopped → ⊥) → d'.units.ahead ≡ [] → IsStreamed d held held' taken taken' → Gives (next.Shown p) d d' held' held'' → AppendsFront taken' taken'' (raw p)
     → IfSome held (λ bytes. IsFrontOfRead bytes held'' taken taken'')
 read_in d d' p held held' held'' taken taken' taken'' cuts moving none so gives front =
     of_read d' (so.given ++ p ∷ []) held (prepend_known d'.units.ahead held'') held'' taken taken'' [] cuts (λ e. moving (gives.2 e))
@@ -254,21 +252,21 @@ read_in d d' p held held' held'' taken taken' taken'' cuts moving none so gives 
     (none_taken d'.units.ahead held'' none) (λ ne. refl) (written_in so.given p taken taken' taken'' so.written front)
 
 -- at the end or a fault
-read_out : (d d' : Decoding) (held held' held'' taken taken' : Option (List ℕ)) → EachHasACut → (d'.stream_end ≡ stream_end.Stopped → ⊥) → d'.units.ahead ≡ [] → IsStreamed d held held' taken taken' → LeadsTo d d' held' held'' []
+pub read_out : (d d' : Decoding) (held held' held'' taken taken' : Option (List ℕ)) → EachHasACut → (d'.stream_end ≡ stream_end.Stopped → ⊥) → d'.units.ahead ≡ [] → IsStreamed d held held' taken taken' → LeadsTo d d' held' held'' []
     → IfSome held (λ bytes. IsFrontOfRead bytes held'' taken taken')
 read_out d d' held held' held'' taken taken' cuts moving none so last =
     of_read d' (so.given ++ []) held (prepend_known d'.units.ahead held'') held'' taken taken' [] cuts moving
     (alone_on (prepend_known decoder_begun.units.ahead held) (prepend_known d.units.ahead held') (prepend_known d'.units.ahead held'') decoder_begun d d' so.given [] so.leads.going last.going so.leads.alone last.alone)
     (none_taken d'.units.ahead held'' none) (λ ne. refl) (written_front (so.given ++ []) taken taken' (subst (λ (ps : List Picture). Appends taken taken' (raws ps)) (sym (append-nil so.given)) so.written))
 
-not_stopped_by_end : (m : StreamEnd) → m ≡ stream_end.Ended → m ≡ stream_end.Stopped → ⊥
+pub not_stopped_by_end : (m : StreamEnd) → m ≡ stream_end.Ended → m ≡ stream_end.Stopped → ⊥
 not_stopped_by_end m is e = let both : stream_end.Ended ≡ stream_end.Stopped = sym is ∙ e in cc
 
-not_stopped_by_fault : (m : StreamEnd) (fault : Fault) → m ≡ stream_end.Faulted fault → m ≡ stream_end.Stopped → ⊥
+pub not_stopped_by_fault : (m : StreamEnd) (fault : Fault) → m ≡ stream_end.Faulted fault → m ≡ stream_end.Stopped → ⊥
 not_stopped_by_fault m fault is e = let both : stream_end.Faulted fault ≡ stream_end.Stopped = sym is ∙ e in cc
 
 -- where a read failed or memory was wanting
-read_some : (d : Decoding) (held held' held'' taken taken' : Option (List ℕ)) → EachHasACut → (d.stream_end ≡ stream_end.Stopped → ⊥) → IsStreamed d held held' taken taken' → StopsIn d held' held''
+pub read_some : (d : Decoding) (held held' held'' taken taken' : Option (List ℕ)) → EachHasACut → (d.stream_end ≡ stream_end.Stopped → ⊥) → IsStreamed d held held' taken taken' → StopsIn d held' held''
     → IfSome held (λ bytes. IsFrontOfRead bytes held'' taken taken')
 read_some d held held' held'' taken taken' cuts moving so stops =
     of_read d so.given held (prepend_known d.units.ahead held') held'' taken taken' stops.1.0 cuts moving so.leads.alone stops.1.1 (λ ne. absurd (ne stops.0)) (written_front so.given taken taken' so.written)
@@ -278,115 +276,8 @@ break_taken d None held' breaks = ([], tt)
 break_taken d (Some bytes) held' breaks =
     (breaks.read, subst (λ (k : Option (List ℕ)). Consumes (Some bytes) k breaks.read) (sym breaks.holds) breaks.parts)
 
-stops_at_break : (d : Decoding) (held held' : Option (List ℕ)) → BreaksOff d held held' → StopsIn d held held'
+pub stops_at_break : (d : Decoding) (held held' : Option (List ℕ)) → BreaksOff d held held' → StopsIn d held held'
 stops_at_break d held held' breaks = (breaks.going, break_taken d (prepend_known d.units.ahead held) held' breaks.told)
-
--- ---- how far the writing is, and how it ends
-
--- pictures were given and written, and nothing was met that stops a decoder
-pub record IsUnderway (d : Decoding) (held held' taken taken' : Option (List ℕ)) : Type 0 where
-  pub streamed : IsStreamed d held held' taken taken'
-  pub moving : d.stream_end ≡ stream_end.Stopped → ⊥
-  pub at_the_end : d.stream_end ≡ stream_end.Ended → IsAtEnd held'
-  pub none_ahead : d.units.ahead ≡ []
-
-not_ended_yet : (m : StreamEnd) → m ≡ stream_end.Going → m ≡ stream_end.Ended → ⊥
-not_ended_yet m going is = let both : stream_end.Going ≡ stream_end.Ended = sym going ∙ is in cc
-
--- before the first picture
-pub underway_begun : (d : Decoding) (held taken : Option (List ℕ)) → d ≡ decoder_begun → IsUnderway d held held taken taken
-underway_begun d held taken same =
-    let going : d.stream_end ≡ stream_end.Going = ap (λ (x : Decoding). x.stream_end) same in
-    record {
-      streamed = streamed_none d held taken same;
-      moving = not_stopped d.stream_end going;
-      at_the_end = λ is. absurd (not_ended_yet d.stream_end going is);
-      none_ahead = ap (λ (x : Decoding). x.units.ahead) same;
-    }
-
-pub room_begun : (d : Decoding) (left : ℕ) → d ≡ decoder_begun → d.units.unit_place.at + length d.units.ahead + left ≤ left
-room_begun d left same = subst (λ (x : Decoding). x.units.unit_place.at + length x.units.ahead + left ≤ left) (sym same) (room_begins left)
-
--- what the next answer keeps
-abbrev KeepsEnd : Decoding → Decoding → Option (List ℕ) → Option (List ℕ) → Type 0
-KeepsEnd d d' held held' =
-    (d.stream_end ≡ stream_end.Ended → IsAtEnd held) → d'.stream_end ≡ stream_end.Ended → IsAtEnd held'
-
-abbrev KeepsAhead : Decoding → Decoding → Type 0
-KeepsAhead d d' = d.units.ahead ≡ [] → d'.units.ahead ≡ []
-
--- one picture more was written
-pub underway_more : (d d' : Decoding) (p : Picture) (held held' held'' taken taken' taken'' : Option (List ℕ)) → IsUnderway d held held' taken taken' → KeepsEnd d d' held' held'' → KeepsAhead d d'
-    → Gives (next.Shown p) d d' held' held'' → Appends taken' taken'' (raw p) → IsUnderway d' held held'' taken taken''
-underway_more d d' p held held' held'' taken taken' taken'' so ends none gives written = record {
-  streamed = streamed_more d d' p held held' held'' taken taken' taken'' so.streamed gives written;
-  moving = λ is. so.moving (gives.2 is);
-  at_the_end = ends so.at_the_end;
-  none_ahead = none so.none_ahead;
-}
-
--- the lawful end
-pub written_to_end : (d d' : Decoding) (t : Tally) (held held' held'' taken taken' : Option (List ℕ)) → EachHasACut → IsUnderway d held held' taken taken' → KeepsEnd d d' held' held'' → KeepsAhead d d'
-    → Gives next.End d d' held' held'' → t ≡ tally d' → t.references ≤ MOST_REFERENCES → IsStreamWritten (decoded.Done t) held held'' taken taken'
-written_to_end d d' t held held' held'' taken taken' cuts so ends none gives is few = record {
-  decoded = subst (λ (x : Tally). IfSome held (λ bytes. IsDecodedStream bytes (decoded.Done x) taken taken')) (sym is) (streamed_done d d' held held' held'' taken taken' so.streamed gives);
-  broken_off = λ (e : decoded.Done t ≡ decoded.ReadFault). cc;
-  front_of_read = read_out d d' held held' held'' taken taken' cuts (not_stopped_by_end d'.stream_end gives.1) (none so.none_ahead) so.streamed gives.0;
-  at_the_end = ends so.at_the_end gives.1;
-  at_most_8_references = few;
-}
-
--- a fault
-pub written_to_fault : (d d' : Decoding) (fault : Fault) (t : Tally) (held held' held'' taken taken' : Option (List ℕ)) → EachHasACut → IsUnderway d held held' taken taken' → KeepsAhead d d'
-    → Gives (next.Fault fault) d d' held' held'' → t ≡ tally d' → t.references ≤ MOST_REFERENCES → IsStreamWritten (decoded.Fault fault t) held held'' taken taken'
-written_to_fault d d' fault t held held' held'' taken taken' cuts so none gives is few = record {
-  decoded = subst (λ (x : Tally). IfSome held (λ bytes. IsDecodedStream bytes (decoded.Fault fault x) taken taken')) (sym is) (streamed_fault d d' fault held held' held'' taken taken' so.streamed gives);
-  broken_off = λ (e : decoded.Fault fault t ≡ decoded.ReadFault). cc;
-  front_of_read = read_out d d' held held' held'' taken taken' cuts (not_stopped_by_fault d'.stream_end fault gives.1) (none so.none_ahead) so.streamed gives.0;
-  at_the_end = tt;
-  at_most_8_references = few;
-}
-
--- a read failed
-pub written_to_read_fault : (d : Decoding) (held held' held'' taken taken' : Option (List ℕ)) → EachHasACut → IsUnderway d held held' taken taken' → BreaksOff d held' held'' → IsStreamWritten decoded.ReadFault held held'' taken taken'
-written_to_read_fault d held held' held'' taken taken' cuts so breaks = record {
-  decoded = cut_off d held held' taken taken' cuts so.moving so.streamed;
-  broken_off = λ is. broken_off d held held' held'' taken taken' so.streamed breaks;
-  front_of_read = read_some d held held' held'' taken taken' cuts so.moving so.streamed (stops_at_break d held' held'' breaks);
-  at_the_end = tt;
-  at_most_8_references = tt;
-}
-
--- memory was wanting while a unit was taken
-pub written_to_want : (d : Decoding) (held held' held'' taken taken' : Option (List ℕ)) → EachHasACut → IsUnderway d held held' taken taken' → StopsIn d held' held'' → IsStreamWritten decoded.NoMemory held held'' taken taken'
-written_to_want d held held' held'' taken taken' cuts so stops = record {
-  decoded = cut_off d held held' taken taken' cuts so.moving so.streamed;
-  broken_off = λ (e : decoded.NoMemory ≡ decoded.ReadFault). cc;
-  front_of_read = read_some d held held' held'' taken taken' cuts so.moving so.streamed stops;
-  at_the_end = tt;
-  at_most_8_references = tt;
-}
-
--- a write failed in the middle of a picture, or found no memory
-pub written_into : (d d' : Decoding) (p : Picture) (held held' held'' taken taken' taken'' : Option (List ℕ)) → EachHasACut → IsUnderway d held held' taken taken' → KeepsAhead d d'
-    → Gives (next.Shown p) d d' held' held'' → AppendsFront taken' taken'' (raw p) → IsStreamWritten decoded.WriteFault held held'' taken taken''
-written_into d d' p held held' held'' taken taken' taken'' cuts so none gives front = record {
-  decoded = cut_off_in d d' p held held' held'' taken taken' taken'' cuts so.moving so.streamed gives front;
-  broken_off = λ (e : decoded.WriteFault ≡ decoded.ReadFault). cc;
-  front_of_read = read_in d d' p held held' held'' taken taken' taken'' cuts so.moving (none so.none_ahead) so.streamed gives front;
-  at_the_end = tt;
-  at_most_8_references = tt;
-}
-
-pub written_into_want : (d d' : Decoding) (p : Picture) (held held' held'' taken taken' taken'' : Option (List ℕ)) → EachHasACut → IsUnderway d held held' taken taken' → KeepsAhead d d'
-    → Gives (next.Shown p) d d' held' held'' → AppendsFront taken' taken'' (raw p) → IsStreamWritten decoded.NoMemory held held'' taken taken''
-written_into_want d d' p held held' held'' taken taken' taken'' cuts so none gives front = record {
-  decoded = cut_off_in d d' p held held' held'' taken taken' taken'' cuts so.moving so.streamed gives front;
-  broken_off = λ (e : decoded.NoMemory ≡ decoded.ReadFault). cc;
-  front_of_read = read_in d d' p held held' held'' taken taken' taken'' cuts so.moving (none so.none_ahead) so.streamed gives front;
-  at_the_end = tt;
-  at_most_8_references = tt;
-}
 
 -- ---- how often reads and writes failed meanwhile
 

@@ -21,7 +21,7 @@ use Rattle.dirac_decode.specs.declared.step.Step.TheVariants as step
 use Rattle.dirac_content.specs.StreamState.{StreamState, unit_step}
 use Rattle.dirac_decode.specs.Stepping.{FaultsAt, IsThere, StepTakesUnit}
 use Rattle.dirac_decode.specs.Decoding.{LeadsTo, decoding}
-use Rattle.dirac_decode.specs.Taking.{IsTook, made_by, shown_in}
+use Rattle.dirac_decode.specs.Taking.{IsTakenAs, made_by, shown_in}
 
 -- the next unit was found, or this end or fault, or the search for it was stopped
 abbrev pub FindsUnit : Result Unit Halt → CuttingProgress → CuttingProgress → Option (List ℕ) → Option (List ℕ) → Type 0
@@ -42,7 +42,7 @@ pub record RefusesContent (unit : Unit) (state : StreamState) (fault : Fault) : 
 -- the content of a unit brings this
 abbrev pub HasContent : Result Step Halt → Unit → StreamState → StreamState → Type 0
 HasContent (Ok step) unit state state' =
-    IsTook (Ok step) (unit_step state unit.info.code unit.payload) state state'
+    IsTakenAs (Ok step) (unit_step state unit.info.code unit.payload) state state'
 HasContent (Err halt.End) unit state state' = ⊥
 HasContent (Err (halt.Fault fault)) unit state state' = RefusesContent unit state fault × (state' ≡ state)
 HasContent (Err halt.ReadFault) unit state state' = ⊥

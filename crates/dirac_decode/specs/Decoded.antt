@@ -1,5 +1,5 @@
 -- What the decoding of a whole stream answers.
-use Rattle.std.specs.Prelude.{◌≡◌, ℕ, List, Option, None, Some, ⊤}
+use Rattle.std.specs.Prelude.{◌≡◌, ℕ, List, ◌++◌, Option, None, Some, ⊤}
 use Rattle.std.specs.Io.KnownBytes.{Appends}
 use Rattle.dirac_io.specs.Writing.{AppendsFront}
 use Rattle.dirac_decode.specs.declared.answers.Decoded.{Decoded}
@@ -37,3 +37,13 @@ IfTally (decoded.Fault fault tally) P = P tally
 IfTally decoded.ReadFault P = ⊤
 IfTally decoded.WriteFault P = ⊤
 IfTally decoded.NoMemory P = ⊤
+
+-- of these bytes some were read and just the others are held, and whatever front of the others is read too, a sink took
+-- a front of the pictures that those read show by themselves
+pub record IsFrontOfMore (bytes : List ℕ) (held' taken taken' : Option (List ℕ)) : Type 0 where
+  pub read : List ℕ
+  pub rest : List ℕ
+  pub parts : bytes ≡ read ++ rest
+  pub holds : held' ≡ Some rest
+  pub shows : (more behind : List ℕ) → rest ≡ more ++ behind
+      → (o : Outcome) × IsShown (read ++ more) o × AppendsFront taken taken' (raws o.shown)

@@ -33,7 +33,7 @@ IsThere units held = IfSome (prepend_known units.ahead held) IsWholeUnit
 abbrev pub IsFurther : Decoding → Decoding → Type 0
 IsFurther old new = new.stream_end ≡ stream_end.Going → old.units.unit_place.at < new.units.unit_place.at
 
--- what an answer says of the decoder before and behind a step; where none is given the unit showed no picture
+-- what an answer says of the decoder before and behind a step; where none is given no picture left with the unit
 abbrev pub StepGives : Option Next → Decoding → Decoding → Option (List ℕ) → Option (List ℕ) → Type 0
 StepGives None old new held held' =
     LeadsTo old new held held' [] × (old.stream_end ≡ stream_end.Going)

@@ -8,16 +8,14 @@ use Rattle.dirac_common.specs.declared.faults.Refusal.{Refusal}
 use Rattle.dirac_common.specs.declared.faults.Stop.{Stop}
 use Rattle.dirac_common.specs.declared.faults.Stop.TheVariants as stop
 use Rattle.dirac_common.specs.declared.picture.Picture.{Picture}
-use Rattle.dirac_sequence_header.specs.declared.sequence.Sequence.{Sequence}
 use Rattle.dirac_sequence_header.specs.Lawful.{IsSequence}
 use Rattle.dirac_refs.specs.Delivery.{flushed, least, others as rest_of}
-use Rattle.dirac_picture.specs.declared.coded.CodedPicture.{CodedPicture}
 use Rattle.dirac_content.specs.declared.opened.Opened.{Opened}
-use Rattle.dirac_decode.specs.declared.made.Rebuilt.{Rebuilt}
+use Rattle.dirac_decode_picture.specs.declared.decoded_picture.DecodedPicture.{DecodedPicture}
 use Rattle.dirac_decode.specs.declared.step.Step.{Step}
 use Rattle.dirac_decode.specs.declared.step.Step.TheVariants as step
-use Rattle.dirac_content.specs.Content.{IsPicture, rebuilt}
-use Rattle.dirac_content.specs.StreamState.{StreamState, StreamStep, as_reference}
+use Rattle.dirac_content.specs.Content.{IsPicture}
+use Rattle.dirac_content.specs.StreamState.{StreamState, StreamStep, shows}
 pub use Rattle.dirac_content.specs.Stopped.{IfStopped}
 use Rattle.dirac_decode.specs.Decoding.{emptied}
 
@@ -32,10 +30,10 @@ abbrev pub Steps : Step → StreamStep → StreamState → Type 0
 Steps step made new = made ≡ made_by step new
 
 -- the answer is what the unit's content brings, or its refusal, at which the state stays
-abbrev pub IsTook : Result Step Stop → Result StreamStep Refusal → StreamState → StreamState → Type 0
-IsTook (Ok step) read old new = (made : StreamStep) × (read ≡ Ok made) × Steps step made new
-IsTook (Err (stop.Refused refusal)) read old new = (read ≡ Err refusal) × (new ≡ old)
-IsTook (Err stop.NoMemory) read old new = new ≡ old
+abbrev pub IsTakenAs : Result Step Stop → Result StreamStep Refusal → StreamState → StreamState → Type 0
+IsTakenAs (Ok step) read old new = (made : StreamStep) × (read ≡ Ok made) × Steps step made new
+IsTakenAs (Err (stop.Refused refusal)) read old new = (read ≡ Err refusal) × (new ≡ old)
+IsTakenAs (Err stop.NoMemory) read old new = new ≡ old
 
 -- how many pictures leave at once
 abbrev pub shown_in : Step → ℕ
@@ -43,17 +41,17 @@ shown_in step.On = 0
 shown_in (step.Shown p) = 1
 shown_in step.Drains = 0
 
--- at most one picture more waits or leaves, and none more where the unit was refused
-abbrev pub Fewer : Result Step Stop → ℕ → ℕ → Type 0
-Fewer (Ok step) before now = shown_in step + now ≤ before + 1
-Fewer (Err stop) before now = now ≤ before
+-- at most one picture more waits or leaves, and none more where the unit was refused or memory was wanting
+abbrev pub OneMoreAtMost : Result Step Stop → ℕ → ℕ → Type 0
+OneMoreAtMost (Ok step) before now = shown_in step + now ≤ before + 1
+OneMoreAtMost (Err stop) before now = now ≤ before
 
 -- what the content of a unit brings with a payload of so many bytes, or its refusal, placed inside the unit
-pub record Takes (answer : Result Step Stop) (read : Result StreamStep Refusal) (bytes : ℕ) (old new : StreamState)
-    : Type 0 where
-  pub took : IsTook answer read old new
+pub record TakesContent (answer : Result Step Stop) (read : Result StreamStep Refusal) (bytes : ℕ)
+    (old new : StreamState) : Type 0 where
+  pub took : IsTakenAs answer read old new
   pub place_inside : IfErr answer (λ e. IfStopped e (λ (r : Refusal). r.at ≤ 13 + bytes))
-  pub fewer_wait : Fewer answer (length old.waiting) (length new.waiting)
+  pub one_more_at_most : OneMoreAtMost answer (length old.waiting) (length new.waiting)
   pub greatest_never_falls : old.most ≤ new.most
 
 -- the picture of least key left, where one waited
@@ -64,11 +62,10 @@ pub record IsPopped (popped : Option Picture) (old new : StreamState) : Type 0 w
   pub fewer : length new.waiting + length (option_to_list popped) ≡ length old.waiting
   pub none : popped ≡ None → length old.waiting ≡ 0
 
--- a coded picture was rebuilt
-pub record IsRebuilt (s : Sequence) (refs : List Picture) (coded : CodedPicture) (r : Rebuilt) : Type 0 where
-  pub same : r.coded ≡ coded
-  pub picture : r.picture ≡ rebuilt s refs r.coded
-  pub reference : r.reference ≡ as_reference r.coded.code r.picture
+-- a decoded picture changes the list and joins those that wait, as the coded picture that it was does
+abbrev pub shows_decoded : StreamState → DecodedPicture → StreamStep
+shows_decoded state d =
+    shows state (record { code = d.code; header = d.header; motion = None; residual = None }) d.picture
 
 -- the open sequence can be read, and all listed pictures are of it; without one none is listed
 abbrev pub IsOpen : Option Opened → List Picture → Type 0

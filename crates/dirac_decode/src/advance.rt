@@ -2,18 +2,15 @@ ghost use Rattle.std.specs.Prelude.{◌≡◌, ℕ, ◌+◌, ◌<◌, ◌≤◌,
 ghost use Rattle.std.specs.Io.KnownBytes.{IsAtEnd};
 ghost use Rattle.dirac_io.specs.Faults.{Rose};
 ghost use Rattle.dirac_units.specs.Progress.{TakesPart, TakesSome};
-ghost use Rattle.dirac_picture.specs.Reading.{ReadsPlanes};
 ghost use Rattle.dirac_decode.specs.Advancing.{Advances, AdvancesBefore, FindsUnit, GoesOn, HasContent};
 ghost use Rattle.dirac_decode.specs.Advancing.{TakesBy, count_shown};
-ghost use Rattle.dirac_rebuild.specs.Rebuilding.{Rebuilds};
+ghost use Rattle.dirac_decode_picture.specs.Payload.{DecodesPictures};
 
 use crate::state::State;
 use crate::step::{Halt, Step};
-use dirac_bits::BitReader;
-use dirac_common::{Fault, NoMemory, Picture, Stop};
-use dirac_header::Transform;
+use dirac_common::{Fault, Stop};
+use dirac_decode_picture::DecodedPicture;
 use dirac_io::Source;
-use dirac_picture::{CodedPicture, CodedResidual};
 use dirac_refs::RefBuffer;
 use dirac_sequence_header::Sequence;
 use dirac_units::{StreamEnd, Unit, UnitStep, Units};
@@ -43,18 +40,19 @@ fn next_unit<S: Source>(units: &mut Units, source: &mut S) -> Result<Unit, Halt>
 }
 
 /// What the content of this unit brings.
-fn content_of<
-    P: Fn(Global, &mut BitReader<'_>, Transform, &Sequence) -> Result<CodedResidual, Stop>,
-    F: Fn(Global, &CodedPicture, &Sequence, &RefBuffer) -> Result<Picture, NoMemory>,
->(planes: &P, make: &F, alloc: Global, unit: Unit, state: &mut State) -> Result<Step, Halt>
-    requires reads { ReadsPlanes (P.pre planes.now) (P.post planes.now) }
-    requires rebuilds { Rebuilds (F.pre make.now) (F.post make.now) }
+fn content_of<F: Fn(Global, &[u8], u8, &Sequence, &mut RefBuffer) -> Result<DecodedPicture, Stop>>(
+    decode: &F,
+    alloc: Global,
+    unit: Unit,
+    state: &mut State,
+) -> Result<Step, Halt>
+    requires decodes { DecodesPictures (F.pre decode.now) (F.post decode.now) }
     requires below_2_63 { unit.at + 13 + length unit.payload < 2 ^ 63 }
     ensures brings { HasContent result unit state.old state.new }
     ensures one_more_at_most { count_shown result + length state.new.waiting ≤ length state.old.waiting + 1 }
     ensures greatest_never_falls { state.old.most ≤ state.new.most }
 {
-    match state.take(planes, make, alloc, unit.info.code, unit.payload) {
+    match state.take(decode, alloc, unit.info.code, unit.payload) {
         Ok(step) => Ok(step),
         Err(Stop::NoMemory) => Err(Halt::NoMemory),
         Err(Stop::Refused(refusal)) => Err(Halt::Fault(Fault {
@@ -68,18 +66,15 @@ fn content_of<
 /// Takes the next unit of a stream.
 pub(crate) fn advance_by_unit<
     S: Source,
-    P: Fn(Global, &mut BitReader<'_>, Transform, &Sequence) -> Result<CodedResidual, Stop>,
-    F: Fn(Global, &CodedPicture, &Sequence, &RefBuffer) -> Result<Picture, NoMemory>,
+    F: Fn(Global, &[u8], u8, &Sequence, &mut RefBuffer) -> Result<DecodedPicture, Stop>,
 >(
-    planes: &P,
-    make: &F,
+    decode: &F,
     alloc: Global,
     units: &mut Units,
     state: &mut State,
     source: &mut S,
 ) -> Result<Step, Halt>
-    requires reads { ReadsPlanes (P.pre planes.now) (P.post planes.now) }
-    requires rebuilds { Rebuilds (F.pre make.now) (F.post make.now) }
+    requires decodes { DecodesPictures (F.pre decode.now) (F.post decode.now) }
     requires going { units.old.stream_end ≡ StreamEnd.Going }
     requires no_overflow { units.old.unit_place.at + length units.old.ahead + S.left source.old < 2 ^ 63 }
     ensures advances { Advances result units.old units.new state.old state.new (S.held source.old) (S.held source.new) }
@@ -102,6 +97,6 @@ pub(crate) fn advance_by_unit<
 {
     match next_unit(units, source) {
         Err(halt) => Err(halt),
-        Ok(unit) => content_of(planes, make, alloc, unit, state),
+        Ok(unit) => content_of(decode, alloc, unit, state),
     }
 }

@@ -1,21 +1,18 @@
 ghost use Rattle.std.specs.Prelude.{◌≡◌, ℕ, ◌+◌, ◌<◌, ◌≤◌, ◌^◌, [], length, Option};
 ghost use Rattle.std.specs.Io.KnownBytes.{IsAtEnd};
 ghost use Rattle.dirac_io.specs.Faults.{Rose};
-ghost use Rattle.dirac_picture.specs.Reading.{ReadsPlanes};
 ghost use Rattle.dirac_decode.specs.Decoding.{decoder_begun, tally, AnswersWhatWasMet, BreaksOff, Gives, StopsIn};
-ghost use Rattle.dirac_rebuild.specs.Rebuilding.{Rebuilds};
+ghost use Rattle.dirac_decode_picture.specs.Payload.{DecodesPictures};
 
 mod stepping;
 
 use crate::answers::Next;
-use crate::in_turn::{read_in_turn, rebuild_in_turn};
+use crate::in_turn::decode_in_turn;
 use crate::state::State;
-use dirac_bits::BitReader;
-use dirac_common::{NoMemory, Picture, Stop};
+use dirac_common::{Picture, Stop};
 use dirac_content::Tally;
-use dirac_header::Transform;
+use dirac_decode_picture::DecodedPicture;
 use dirac_io::Source;
-use dirac_picture::{CodedPicture, CodedResidual};
 use dirac_refs::{MOST_REFERENCES, RefBuffer};
 use dirac_sequence_header::Sequence;
 use dirac_units::{StreamEnd, Units};
@@ -61,22 +58,6 @@ impl Decoder {
         }
     }
 
-    /// A decoder before the first unit that keeps half samples of references, for `rebuild`.
-    pub(crate) fn keeping(alloc: Global) -> Decoder
-        ensures { result ≡ decoder_begun }
-    {
-        let mut decoder = Decoder::new(alloc);
-        decoder.keep_halves();
-        decoder
-    }
-
-    /// From now on half samples of references are kept, for a call that rebuilds pictures by them.
-    fn keep_halves(&mut self)
-        ensures { self.new ≡ self.old }
-    {
-        self.state.keep_halves();
-    }
-
     /// How many pictures were given so far, and the greatest length that the list of references had so far.
     pub fn tally(&self) -> Tally
         ensures value { result ≡ tally self.now }
@@ -111,19 +92,15 @@ impl Decoder {
         ensures no_overflow { self.new.units.unit_place.at + length self.new.units.ahead + S.left source.new
             ≤ self.old.units.unit_place.at + length self.old.units.ahead + S.left source.old }
     {
-        self.keep_halves();
-        self.next_picture_by(&read_in_turn, &rebuild_in_turn, source)
+        self.next_picture_by(&decode_in_turn, source)
     }
 
-    /// The next picture of the stream, as `next_picture`, where the subbands of planes are read by `planes`, and
-    /// pictures are rebuilt by `make`.
+    /// The next picture of the stream, as `next_picture`, where `decode` decodes each picture.
     pub fn next_picture_by<
         S: Source,
-        P: Fn(Global, &mut BitReader<'_>, Transform, &Sequence) -> Result<CodedResidual, Stop>,
-        F: Fn(Global, &CodedPicture, &Sequence, &RefBuffer) -> Result<Picture, NoMemory>,
-    >(&mut self, planes: &P, make: &F, source: &mut S) -> Next
-        requires reads { ReadsPlanes (P.pre planes.now) (P.post planes.now) }
-        requires rebuilds { Rebuilds (F.pre make.now) (F.post make.now) }
+        F: Fn(Global, &[u8], u8, &Sequence, &mut RefBuffer) -> Result<DecodedPicture, Stop>,
+    >(&mut self, decode: &F, source: &mut S) -> Next
+        requires decodes { DecodesPictures (F.pre decode.now) (F.post decode.now) }
         requires no_overflow { self.old.units.unit_place.at + length self.old.units.ahead + S.left source.old < 2 ^ 63 }
         ensures gives { Gives result self.old self.new (S.held source.old) (S.held source.new) }
         ensures repeated { AnswersWhatWasMet self.old.stream_end self.old.due result }
@@ -144,7 +121,7 @@ impl Decoder {
             ≤ self.old.units.unit_place.at + length self.old.units.ahead + S.left source.old }
     {
         'units: loop {
-            if let Some(next) = self.step_by(planes, make, source) {
+            if let Some(next) = self.step_by(decode, source) {
                 return next;
             }
         }

@@ -1,39 +1,21 @@
-ghost use Rattle.std.specs.Prelude.{◌≡◌, IfOk};
-ghost use Rattle.dirac_picture.specs.Reading.{CanBeRead, ReadsThem};
-ghost use Rattle.dirac_content.specs.Content.{rebuilt};
-ghost use Rattle.dirac_rebuild.specs.Rebuilding.{CanBeRebuilt};
+ghost use Rattle.dirac_decode_picture.specs.Payload.{CanBeDecoded, DecodesPayload};
 
-use dirac_bits::BitReader;
-use dirac_common::{NoMemory, Picture, Stop};
-use dirac_header::Transform;
-use dirac_picture::{CodedPicture, CodedResidual, read_planes};
-use dirac_rebuild::rebuild;
+use dirac_common::Stop;
+use dirac_decode_picture::{DecodedPicture, decode_picture};
 use dirac_refs::RefBuffer;
 use dirac_sequence_header::Sequence;
 use std::alloc::Global;
 
-/// Reads the subbands of a picture's planes one after another: how a decoder of one thread reads them.
-pub(crate) fn read_in_turn(
+/// Reads and rebuilds a picture plane after plane: how a decoder of one thread decodes it.
+pub(crate) fn decode_in_turn(
     alloc: Global,
-    r: &mut BitReader<'_>,
-    transform: Transform,
+    payload: &[u8],
+    code: u8,
     sequence: &Sequence,
-) -> Result<CodedResidual, Stop>
-    requires { CanBeRead sequence.now transform }
-    ensures { ReadsThem sequence.now transform r.old result r.new }
+    refs: &mut RefBuffer,
+) -> Result<DecodedPicture, Stop>
+    requires { CanBeDecoded code sequence.now refs.old }
+    ensures { DecodesPayload payload.now code sequence.now refs.old result refs.new }
 {
-    read_planes(alloc, r, transform, sequence)
-}
-
-/// Rebuilds a picture plane after plane: how a decoder of one thread rebuilds it.
-pub(crate) fn rebuild_in_turn(
-    alloc: Global,
-    coded: &CodedPicture,
-    sequence: &Sequence,
-    refs: &RefBuffer,
-) -> Result<Picture, NoMemory>
-    requires { CanBeRebuilt coded.now sequence.now refs.now }
-    ensures { IfOk result (λ p. p ≡ rebuilt sequence.now refs.now coded.now) }
-{
-    rebuild(alloc, coded, sequence, refs)
+    decode_picture(alloc, payload, code, sequence, refs)
 }

@@ -1,20 +1,16 @@
 ghost use Rattle.std.specs.Prelude.{◌≡◌, ℕ, ◌<◌, ◌≤◌, ◌^◌, length, IsTrue, Ok, Option};
 ghost use Rattle.dirac_picture.specs.Grammar.{is_picture};
-ghost use Rattle.dirac_picture.specs.Reading.{ReadsPlanes};
-ghost use Rattle.dirac_rebuild.specs.Rebuilding.{Rebuilds};
+ghost use Rattle.dirac_decode_picture.specs.Payload.{CanBeDecoded, DecodesPayload, DecodesPictures};
 ghost use Rattle.dirac_content.specs.StreamState.{as_reference, stream_begun, header_step, in_unit};
 ghost use Rattle.dirac_content.specs.StreamState.{is_same as same_header};
-ghost use Rattle.dirac_content.specs.StreamState.{first_or as first_of, unit_step, passed, picture_step, shows};
+ghost use Rattle.dirac_content.specs.StreamState.{first_or as first_of, unit_step, passed, picture_step};
 ghost use Rattle.dirac_decode.specs.Stepping.{opened_sequence};
-ghost use Rattle.dirac_decode.specs.Taking.{IsOfOpen, IsPopped, Takes};
+ghost use Rattle.dirac_decode.specs.Taking.{IsOfOpen, IsPopped, TakesContent, shows_decoded};
 
-use crate::made::{Rebuilt, make_picture};
 use crate::step::Step;
-use dirac_bits::BitReader;
-use dirac_common::{Cause, END_OF_SEQUENCE, NoMemory, Picture, Refusal, SEQUENCE_HEADER, Stop};
+use dirac_common::{Cause, END_OF_SEQUENCE, Picture, Refusal, SEQUENCE_HEADER, Stop};
 use dirac_content::Opened;
-use dirac_header::Transform;
-use dirac_picture::{CodedPicture, CodedResidual, read_picture_by};
+use dirac_decode_picture::DecodedPicture;
 use dirac_refs::{Delivery, MOST_REFERENCES, RefBuffer, key};
 use dirac_sequence_header::{Sequence, read_sequence};
 use dirac_units::{PARSE_INFO_LENGTH, Payload, fields_are_read};
@@ -29,7 +25,6 @@ pub(crate) struct State {
     refs: RefBuffer,
     waits: Delivery,
     most: u8,
-    keeps: bool,
 }
 
 impl Model for State {
@@ -62,15 +57,7 @@ impl State {
             refs: RefBuffer::new(),
             waits: Delivery::new(),
             most: 0,
-            keeps: false,
         }
-    }
-
-    /// From now on the half samples of references are kept, for a call that rebuilds pictures by them.
-    pub(crate) fn keep_halves(&mut self)
-        ensures { self.new ≡ self.old }
-    {
-        self.keeps = true;
     }
 
     /// The greatest length that a list of references had.
@@ -100,20 +87,11 @@ impl State {
 
     /// Takes the content of a unit with this parse code.
     pub(crate) fn take<
-        P: Fn(Global, &mut BitReader<'_>, Transform, &Sequence) -> Result<CodedResidual, Stop>,
-        F: Fn(Global, &CodedPicture, &Sequence, &RefBuffer) -> Result<Picture, NoMemory>,
-    >(
-        &mut self,
-        planes: &P,
-        make: &F,
-        alloc: Global,
-        code: u8,
-        payload: Payload,
-    ) -> Result<Step, Stop>
-        requires reads { ReadsPlanes (P.pre planes.now) (P.post planes.now) }
-        requires rebuilds { Rebuilds (F.pre make.now) (F.post make.now) }
+        F: Fn(Global, &[u8], u8, &Sequence, &mut RefBuffer) -> Result<DecodedPicture, Stop>,
+    >(&mut self, decode: &F, alloc: Global, code: u8, payload: Payload) -> Result<Step, Stop>
+        requires decodes { DecodesPictures (F.pre decode.now) (F.post decode.now) }
         requires below_2_63 { length payload < 2 ^ 63 }
-        ensures { Takes result (unit_step self.old code payload) (length payload) self.old self.new }
+        ensures { TakesContent result (unit_step self.old code payload) (length payload) self.old self.new }
     {
         if !fields_are_read(code) {
             return Ok(self.pass(code));
@@ -121,13 +99,13 @@ impl State {
         if code == SEQUENCE_HEADER {
             self.take_header(payload)
         } else {
-            self.take_picture(planes, make, alloc, code, payload.bytes())
+            self.take_picture(decode, alloc, code, payload.bytes())
         }
     }
 
     /// Passes over a unit without content, or closes the sequence.
     fn pass(&mut self, code: u8) -> Step
-        ensures { Takes (Ok result) (Ok (passed self.old code)) 0 self.old self.new }
+        ensures { TakesContent (Ok result) (Ok (passed self.old code)) 0 self.old self.new }
     {
         if code == END_OF_SEQUENCE {
             self.opened = None;
@@ -141,7 +119,8 @@ impl State {
     /// Opens a sequence, or compares a repeated header with the open one's.
     fn take_header(&mut self, payload: Payload) -> Result<Step, Stop>
         requires { length payload < 2 ^ 63 }
-        ensures { Takes result (header_step self.old self.old.opened payload) (length payload) self.old self.new }
+        ensures { TakesContent result (header_step self.old self.old.opened payload) (length payload)
+            self.old self.new }
     {
         if let Some(opened) = &self.opened {
             if is_same(payload.bytes(), opened.header.bytes()) {
@@ -165,23 +144,14 @@ impl State {
         }
     }
 
-    /// Reads and rebuilds a picture of the open sequence.
+    /// Decodes a picture of the open sequence.
     fn take_picture<
-        P: Fn(Global, &mut BitReader<'_>, Transform, &Sequence) -> Result<CodedResidual, Stop>,
-        F: Fn(Global, &CodedPicture, &Sequence, &RefBuffer) -> Result<Picture, NoMemory>,
-    >(
-        &mut self,
-        planes: &P,
-        make: &F,
-        alloc: Global,
-        code: u8,
-        payload: &[u8],
-    ) -> Result<Step, Stop>
-        requires reads { ReadsPlanes (P.pre planes.now) (P.post planes.now) }
-        requires rebuilds { Rebuilds (F.pre make.now) (F.post make.now) }
+        F: Fn(Global, &[u8], u8, &Sequence, &mut RefBuffer) -> Result<DecodedPicture, Stop>,
+    >(&mut self, decode: &F, alloc: Global, code: u8, payload: &[u8]) -> Result<Step, Stop>
+        requires decodes { DecodesPictures (F.pre decode.now) (F.post decode.now) }
         requires code { IsTrue (is_picture code) }
         requires below_2_63 { length payload.now < 2 ^ 63 }
-        ensures { Takes result (picture_step self.old self.old.opened code payload.now) (length payload.now)
+        ensures { TakesContent result (picture_step self.old self.old.opened code payload.now) (length payload.now)
             self.old self.new }
     {
         let Some(opened) = &self.opened else {
@@ -190,38 +160,57 @@ impl State {
                 cause: Cause::NoSequence,
             }));
         };
-        let sequence = &opened.sequence;
-        let coded = match read_picture_by(planes, alloc, payload, code, sequence, &self.refs) {
-            Err(Stop::Refused(refusal)) => return Err(Stop::Refused(behind_parse_info(refusal))),
-            Err(Stop::NoMemory) => return Err(Stop::NoMemory),
-            Ok(coded) => coded,
-        };
-        match make_picture(make, alloc, coded, sequence, self.keeps, &mut self.refs) {
-            Err(NoMemory) => Err(Stop::NoMemory),
-            Ok(made) => Ok(self.show(made)),
+        match decoded_by(
+            decode,
+            alloc,
+            payload,
+            code,
+            &opened.sequence,
+            &mut self.refs,
+        ) {
+            Err(Stop::Refused(refusal)) => Err(Stop::Refused(behind_parse_info(refusal))),
+            Err(Stop::NoMemory) => Err(Stop::NoMemory),
+            Ok(decoded) => Ok(self.show(decoded)),
         }
     }
 
-    /// A rebuilt picture changes the list and joins those that wait.
-    fn show(&mut self, made: Rebuilt) -> Step
-        requires reference { made.reference ≡ as_reference made.coded.code made.picture }
-        requires fits { IsOfOpen self.old.opened made.picture }
-        ensures { Takes (Ok result) (Ok (shows self.old made.coded made.picture)) 0 self.old self.new }
+    /// A decoded picture changes the list and joins those that wait.
+    fn show(&mut self, decoded: DecodedPicture) -> Step
+        requires reference { decoded.reference ≡ as_reference decoded.code decoded.picture }
+        requires fits { IsOfOpen self.old.opened decoded.picture }
+        ensures { TakesContent (Ok result) (Ok (shows_decoded self.old decoded)) 0 self.old self.new }
     {
-        let Rebuilt {
-            coded,
+        let DecodedPicture {
+            code: _,
+            header,
             picture,
             reference,
-        } = made;
+        } = decoded;
         let first = first_or(self.first, picture.number);
         self.first = Some(first);
-        self.refs.commit(coded.header.retire, reference);
+        self.refs.commit(header.retire, reference);
         self.most = self.most.max(self.refs.count());
         match self.waits.push(key(first, picture.number), picture) {
             None => Step::On,
             Some(gone) => Step::Shown(gone),
         }
     }
+}
+
+/// A picture decoded by `decode`.
+fn decoded_by<F: Fn(Global, &[u8], u8, &Sequence, &mut RefBuffer) -> Result<DecodedPicture, Stop>>(
+    decode: &F,
+    alloc: Global,
+    payload: &[u8],
+    code: u8,
+    sequence: &Sequence,
+    refs: &mut RefBuffer,
+) -> Result<DecodedPicture, Stop>
+    requires decodes { DecodesPictures (F.pre decode.now) (F.post decode.now) }
+    requires can_be_decoded { CanBeDecoded code sequence.now refs.old }
+    ensures { DecodesPayload payload.now code sequence.now refs.old result refs.new }
+{
+    decode(alloc, payload, code, sequence, refs)
 }
 
 /// The number of a sequence's first picture, which is this one where there was none.

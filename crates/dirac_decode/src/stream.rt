@@ -1,22 +1,19 @@
 ghost use Rattle.std.specs.Prelude.{◌≡◌, ◌≤◌, IfSome};
 ghost use Rattle.std.specs.Io.KnownBytes.{IsAtEnd};
 ghost use Rattle.dirac_io.specs.Faults.{Rose};
-ghost use Rattle.dirac_picture.specs.Reading.{ReadsPlanes};
 ghost use Rattle.dirac_decode.specs.Decoding.{decoder_begun};
-ghost use Rattle.dirac_decode.specs.Decoded.{IfDone, IfTally, IsDecodedStream};
+ghost use Rattle.dirac_decode.specs.Decoded.{IfDone, IfTally, IsDecodedStream, IsFrontOfMore};
 ghost use Rattle.dirac_decode.specs.Streamed.{CountsFaults, IsStreamWritten};
 ghost use Rattle.dirac_content.specs.Leaving.{IsBrokenOff, IsFrontOfRead};
-ghost use Rattle.dirac_rebuild.specs.Rebuilding.{Rebuilds};
+ghost use Rattle.dirac_decode_picture.specs.Payload.{DecodesPictures};
 
 use crate::answers::{Decoded, Next};
 use crate::decoder::Decoder;
-use crate::in_turn::{read_in_turn, rebuild_in_turn};
-use dirac_bits::BitReader;
-use dirac_common::{NoMemory, Picture, Stop};
+use crate::in_turn::decode_in_turn;
+use dirac_common::Stop;
 use dirac_content::put_picture;
-use dirac_header::Transform;
+use dirac_decode_picture::DecodedPicture;
 use dirac_io::{Put, Sink, Source};
-use dirac_picture::{CodedPicture, CodedResidual};
 use dirac_refs::{MOST_REFERENCES, RefBuffer};
 use dirac_sequence_header::Sequence;
 use std::alloc::Global;
@@ -38,28 +35,18 @@ pub fn decode_stream<S: Source, K: Sink>(alloc: Global, source: &mut S, out: &mu
     ensures reads { S.faults source.old ≤ S.faults source.new }
     ensures writes { K.faults out.old ≤ K.faults out.new }
 {
-    let mut decoder = Decoder::keeping(alloc);
+    let mut decoder = Decoder::new(alloc);
     let mut row = Vec::new(alloc);
-    write_pictures(
-        &read_in_turn,
-        &rebuild_in_turn,
-        &mut decoder,
-        &mut row,
-        source,
-        out,
-    )
+    write_pictures(&decode_in_turn, &mut decoder, &mut row, source, out)
 }
 
-/// Decodes a whole stream, as `decode_stream`, where the subbands of planes are read by `planes`, and pictures are
-/// rebuilt by `make`.
+/// Decodes a whole stream, as `decode_stream`, where `decode` decodes each picture.
 pub fn decode_stream_by<
     S: Source,
     K: Sink,
-    P: Fn(Global, &mut BitReader<'_>, Transform, &Sequence) -> Result<CodedResidual, Stop>,
-    F: Fn(Global, &CodedPicture, &Sequence, &RefBuffer) -> Result<Picture, NoMemory>,
->(planes: &P, make: &F, alloc: Global, source: &mut S, out: &mut K) -> Decoded
-    requires reads { ReadsPlanes (P.pre planes.now) (P.post planes.now) }
-    requires rebuilds { Rebuilds (F.pre make.now) (F.post make.now) }
+    F: Fn(Global, &[u8], u8, &Sequence, &mut RefBuffer) -> Result<DecodedPicture, Stop>,
+>(decode: &F, alloc: Global, source: &mut S, out: &mut K) -> Decoded
+    requires decodes { DecodesPictures (F.pre decode.now) (F.post decode.now) }
     ensures decoded { IfSome (S.held source.old)
         (λ bytes. IsDecodedStream bytes result (K.taken out.old) (K.taken out.new)) }
     // Where a read failed, just what leaves while the units that were read whole are taken was written.
@@ -67,6 +54,9 @@ pub fn decode_stream_by<
         (S.held source.new) (K.taken out.old) (K.taken out.new)) }
     // Whatever is answered, what was written is a front of what the bytes read show by themselves.
     ensures front_of_read { IfSome (S.held source.old) (λ bytes. IsFrontOfRead bytes (S.held source.new)
+        (K.taken out.old) (K.taken out.new)) }
+    // The same where some of the bytes left are read too.
+    ensures front_of_more { IfSome (S.held source.old) (λ bytes. IsFrontOfMore bytes (S.held source.new)
         (K.taken out.old) (K.taken out.new)) }
     ensures whole { IfDone result (IsAtEnd (S.held source.new)) }
     ensures at_most_8_references { IfTally result (λ tally. tally.references ≤ MOST_REFERENCES) }
@@ -77,25 +67,16 @@ pub fn decode_stream_by<
 {
     let mut decoder = Decoder::new(alloc);
     let mut row = Vec::new(alloc);
-    write_pictures(planes, make, &mut decoder, &mut row, source, out)
+    write_pictures(decode, &mut decoder, &mut row, source, out)
 }
 
 /// Writes the pictures of a stream that a new decoder gives; `row` is a buffer for the bytes of a plane.
 fn write_pictures<
     S: Source,
     K: Sink,
-    P: Fn(Global, &mut BitReader<'_>, Transform, &Sequence) -> Result<CodedResidual, Stop>,
-    F: Fn(Global, &CodedPicture, &Sequence, &RefBuffer) -> Result<Picture, NoMemory>,
->(
-    planes: &P,
-    make: &F,
-    decoder: &mut Decoder,
-    row: &mut Vec<u8>,
-    source: &mut S,
-    out: &mut K,
-) -> Decoded
-    requires reads { ReadsPlanes (P.pre planes.now) (P.post planes.now) }
-    requires rebuilds { Rebuilds (F.pre make.now) (F.post make.now) }
+    F: Fn(Global, &[u8], u8, &Sequence, &mut RefBuffer) -> Result<DecodedPicture, Stop>,
+>(decode: &F, decoder: &mut Decoder, row: &mut Vec<u8>, source: &mut S, out: &mut K) -> Decoded
+    requires decodes { DecodesPictures (F.pre decode.now) (F.post decode.now) }
     requires new { decoder.old ≡ decoder_begun }
     ensures written { IsStreamWritten result (S.held source.old) (S.held source.new) (K.taken out.old)
         (K.taken out.new) }
@@ -103,7 +84,7 @@ fn write_pictures<
         (K.faults out.new) }
 {
     'pictures: loop {
-        match decoder.next_picture_by(planes, make, source) {
+        match decoder.next_picture_by(decode, source) {
             Next::Shown(picture) => match put_picture(out, &picture, row) {
                 Put::All => {}
                 Put::Failed => return Decoded::WriteFault,

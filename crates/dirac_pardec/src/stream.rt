@@ -1,28 +1,28 @@
-ghost use Rattle.std.specs.Prelude.{◌≡◌, ◌≤◌, IfOk, IfSome};
+ghost use Rattle.std.specs.Prelude.{◌≡◌, ◌≤◌, IfSome};
 ghost use Rattle.std.specs.Io.KnownBytes.{IsAtEnd};
 ghost use Rattle.std.specs.Thread.{IsSync};
 ghost use Rattle.dirac_io.specs.Faults.{Rose};
-ghost use Rattle.dirac_picture.specs.Reading.{CanBeRead, ReadsThem};
-ghost use Rattle.dirac_content.specs.Content.{rebuilt};
-ghost use Rattle.dirac_decode.specs.Decoded.{IfDone, IfTally, IsDecodedStream};
 ghost use Rattle.dirac_content.specs.Leaving.{IsBrokenOff, IsFrontOfRead};
-ghost use Rattle.dirac_rebuild.specs.Rebuilding.{CanBeRebuilt};
+ghost use Rattle.dirac_decode_picture.specs.Payload.{CanBeDecoded, DecodesPayload};
+ghost use Rattle.dirac_decode.specs.Decoded.{IfDone, IfTally, IsDecodedStream};
 
-use dirac_bits::BitReader;
-use dirac_common::{NoMemory, Picture, RowGate, Stop};
+use crate::at_hand::decode_at_hand;
+use crate::crew::Crew;
+use crate::lot::{Lot, MOST_PICTURES};
+use dirac_ahead::{Ahead, Begun, Lent, Plan};
+use dirac_common::{RowGate, Stop};
 use dirac_decode::{Decoded, decode_stream_by};
+use dirac_decode_picture::DecodedPicture;
 use dirac_io::{Sink, Source};
-use dirac_parameters::Transform;
-use dirac_picture::{CodedPicture, CodedResidual};
 use dirac_refs::{MOST_REFERENCES, RefBuffer};
 use dirac_sequence_header::Sequence;
-use dirac_slices::{read_planes_rows, rebuild_rows};
 use std::alloc::Global;
-use std::marker::Sync;
+use std::marker::{Brand, Sync};
 use std::thread::Threads;
 
-/// Decodes a whole stream, as `decode_stream`, its pictures read and rebuilt by that many workers as
-/// `read_planes_rows` and `rebuild_rows` do.
+/// Decodes a whole stream, as `decode_stream`, by that many workers. Units are read ahead, so that intra pictures are
+/// decoded several at once, a worker each; all other pictures are read and rebuilt as `read_planes_rows` and
+/// `rebuild_rows` do.
 pub fn decode_rows<R: Threads + Sync, S: Source, K: Sink, G: RowGate>(
     rt: &R,
     alloc: Global,
@@ -47,19 +47,72 @@ pub fn decode_rows<R: Threads + Sync, S: Source, K: Sink, G: RowGate>(
     ensures reads { S.faults source.old ≤ S.faults source.new }
     ensures writes { K.faults out.old ≤ K.faults out.new }
 {
-    let planes = |alloc: Global, r: &mut BitReader<
-        '_,
-    >, transform: Transform, sequence: &Sequence| -> Result<CodedResidual, Stop>
-        requires { IsSync R.row × IsSync G.row × (1 ≤ workers) × (workers ≤ 64) × CanBeRead sequence.now transform }
-        ensures { ReadsThem sequence.now transform r.old result r.new }
-    { read_planes_rows(rt, alloc, r, transform, sequence, workers, gate) };
-    let make = |alloc: Global, coded: &CodedPicture, sequence: &Sequence, refs: &RefBuffer| -> Result<
-        Picture,
-        NoMemory,
+    let crew = Crew::new(rt, workers, gate);
+    let lot = Lot::new();
+    let Finished { answer, source } = decode_ahead::<R, S, K, G, Brand>(
+        &crew,
+        &lot,
+        alloc,
+        Lent { source },
+        out,
+    );
+    // No effect at run time: it tells what the source is at the end.
+    let _ = &*source;
+    answer
+}
+
+/// How a decoding ended, and the source again.
+#[derive(Drop)]
+struct Finished<'a, S> {
+    answer: Decoded,
+    source: &'a mut S,
+}
+
+/// The most bytes that are read ahead.
+const MOST_AHEAD: usize = 1 << 25;
+
+/// Decodes a whole stream, as `decode_rows`, its units read ahead.
+fn decode_ahead<'a, R: Threads + Sync, S: Source, K: Sink, G: RowGate, B: Begun>(
+    crew: &Crew<R, G>,
+    lot: &'a Lot,
+    alloc: Global,
+    lent: Lent<'a, S>,
+    out: &mut K,
+) -> Finished<'a, S>
+    requires same_reference { lent.source.ghost_name ≡ B.name }
+    requires faults { S.faults lent.source.now ≡ B.faults }
+    ensures same_reference { result.source.ghost_name ≡ lent.entry.source.ghost_name }
+    ensures decoded { IfSome (S.held lent.entry.source.now)
+        (λ bytes. IsDecodedStream bytes result.answer (K.taken out.old) (K.taken out.new)) }
+    // Where a read failed, just what leaves while the units that were read whole are taken was written.
+    ensures broken_off { result.answer ≡ Decoded.ReadFault → IfSome (S.held lent.entry.source.now)
+        (λ bytes. IsBrokenOff bytes (S.held result.source.now) (K.taken out.old) (K.taken out.new)) }
+    // Whatever is answered, what was written is a front of what the bytes read show by themselves.
+    ensures front_of_read { IfSome (S.held lent.entry.source.now)
+        (λ bytes. IsFrontOfRead bytes (S.held result.source.now) (K.taken out.old) (K.taken out.new)) }
+    ensures whole { IfDone result.answer (IsAtEnd (S.held result.source.now)) }
+    ensures at_most_8_references { IfTally result.answer (λ tally. tally.references ≤ MOST_REFERENCES) }
+    ensures read { result.answer ≡ Decoded.ReadFault
+        → Rose (S.faults lent.entry.source.now) (S.faults result.source.now) }
+    ensures write { result.answer ≡ Decoded.WriteFault → Rose (K.faults out.old) (K.faults out.new) }
+    ensures reads { S.faults lent.entry.source.now ≤ S.faults result.source.now }
+    ensures writes { K.faults out.old ≤ K.faults out.new }
+{
+    let decode = |alloc: Global, payload: &[u8], code: u8, sequence: &Sequence, refs: &mut RefBuffer| -> Result<
+        DecodedPicture,
+        Stop,
     >
-        requires { IsSync R.row × IsSync G.row × (1 ≤ workers) × (workers ≤ 64)
-            × CanBeRebuilt coded.now sequence.now refs.now }
-        ensures { IfOk result (λ p. p ≡ rebuilt sequence.now refs.now coded.now) }
-    { rebuild_rows(rt, alloc, coded, sequence, refs, workers, gate) };
-    decode_stream_by(&planes, &make, alloc, source, out)
+        requires { IsSync R.row × IsSync G.row × CanBeDecoded code sequence.now refs.old }
+        ensures { DecodesPayload payload.now code sequence.now refs.old result refs.new }
+    { decode_at_hand(crew, lot, alloc, payload, code, sequence, refs) };
+    let plan = Plan {
+        pictures: crew.workers.min(MOST_PICTURES) as usize,
+        most: MOST_AHEAD,
+    };
+    let mut ahead = Ahead::<S, Lot, B>::new(alloc, lent, lot, plan);
+    let answer = decode_stream_by(&decode, alloc, &mut ahead, out);
+    Finished {
+        answer,
+        source: ahead.into_source(),
+    }
 }

@@ -1,4 +1,4 @@
-use crate::encoding::encoded;
+use crate::encoding::{encoded, encoded_as, sized};
 use crate::gates::HoldsEachCall;
 use dirac_common::{NoMemory, OpenGate};
 use dirac_decode::{Decoded, Tally};
@@ -57,6 +57,30 @@ fn two_workers_share_the_subbands(rt: HostRuntime) -> Result<(), NoMemory> {
         assert_eq!(rt; ended, Decoded::Done(tally));
         assert_eq!(rt; out.taken(), made.shown.taken());
         assert_eq!(rt; gate.calls(), Some(6), "row {held} held");
+    }
+    Ok(())
+}
+
+// Two intra pictures have one call: each is decoded whole by one of the workers.
+#[test]
+fn two_workers_decode_a_picture_each(rt: HostRuntime) -> Result<(), NoMemory> {
+    let alloc = rt.alloc();
+    let mut settings = sized(320, 208);
+    settings.gop = 1;
+    let made = encoded_as(&rt, alloc, &settings, &OpenGate)?;
+    for held in [0, 1] {
+        let gate = HoldsEachCall::new(held);
+        let bytes = Vec::from_slice(alloc, made.stream.taken())?;
+        let mut source = MemSource::new(bytes, 4096, Vec::new(alloc));
+        let mut out = MemSink::new(alloc, 4096, Vec::new(alloc));
+        let ended = decode_rows(&rt, alloc, &mut source, &mut out, 2, &gate);
+        let tally = Tally {
+            pictures: 2,
+            references: 2,
+        };
+        assert_eq!(rt; ended, Decoded::Done(tally));
+        assert_eq!(rt; out.taken(), made.shown.taken());
+        assert_eq!(rt; gate.calls(), Some(1), "row {held} held");
     }
     Ok(())
 }

@@ -26,6 +26,14 @@ fn moving(alloc: Global, width: u32, height: u32) -> Result<Vec<u8>, NoMemory> {
     Ok(raw)
 }
 
+// Settings of pictures of this size.
+pub fn sized(width: u32, height: u32) -> Settings {
+    let mut settings = Settings::of_base(0);
+    settings.width = width;
+    settings.height = height;
+    settings
+}
+
 // Encodes them; a picture of 40 rows has two rows of superblocks, one of 72 rows has three.
 pub fn encoded<R: Threads + Sync, G: RowGate>(
     rt: &R,
@@ -35,14 +43,23 @@ pub fn encoded<R: Threads + Sync, G: RowGate>(
     workers: u32,
     gate: &G,
 ) -> Result<Made, NoMemory> {
-    let mut settings = Settings::of_base(0);
-    settings.width = width;
-    settings.height = height;
+    let mut settings = sized(width, height);
     settings.workers = workers;
+    encoded_as(rt, alloc, &settings, gate)
+}
+
+// Encodes them by these settings.
+pub fn encoded_as<R: Threads + Sync, G: RowGate>(
+    rt: &R,
+    alloc: Global,
+    settings: &Settings,
+    gate: &G,
+) -> Result<Made, NoMemory> {
     let Ok(()) = settings.check() else {
         return Err(NoMemory);
     };
-    let mut source = MemSource::new(moving(alloc, width, height)?, 4096, Vec::new(alloc));
+    let raw = moving(alloc, settings.width, settings.height)?;
+    let mut source = MemSource::new(raw, 4096, Vec::new(alloc));
     let mut stream = MemSink::new(alloc, 4096, Vec::new(alloc));
     let mut shown = MemSink::new(alloc, 4096, Vec::new(alloc));
     let ended = encode_stream(
@@ -51,7 +68,7 @@ pub fn encoded<R: Threads + Sync, G: RowGate>(
         &mut source,
         &mut stream,
         &mut shown,
-        &settings,
+        settings,
         gate,
     );
     Ok(Made {

@@ -2,9 +2,8 @@
 ghost use Rattle.std.specs.Prelude.{◌≡◌, ℕ, ◌+◌, ◌<◌, ◌≤◌, ◌^◌, [], length, IfSome, None, Some, Option};
 ghost use Rattle.std.specs.Io.KnownBytes.{IsAtEnd};
 ghost use Rattle.dirac_io.specs.Faults.{Rose};
-ghost use Rattle.dirac_picture.specs.Reading.{ReadsPlanes};
 ghost use Rattle.dirac_decode.specs.Decoding.{AnswersWhatWasMet, BreaksOff, StopsIn};
-ghost use Rattle.dirac_rebuild.specs.Rebuilding.{Rebuilds};
+ghost use Rattle.dirac_decode_picture.specs.Payload.{DecodesPictures};
 ghost use Rattle.dirac_decode.specs.Stepping.{DueGives, IsThere, StepGives, StepGivesBefore, TakesAs, TakesOne};
 ghost use Rattle.dirac_decode.specs.Stepping.{opened_sequence};
 ghost use Rattle.dirac_decode.specs.Advancing.{answer_by};
@@ -12,13 +11,11 @@ ghost use Rattle.dirac_decode.specs.Advancing.{answer_by};
 use crate::advance::advance_by_unit;
 use crate::answers::Next;
 use crate::decoder::Decoder;
-use crate::in_turn::{read_in_turn, rebuild_in_turn};
+use crate::in_turn::decode_in_turn;
 use crate::step::{Turn, turn_of};
-use dirac_bits::BitReader;
-use dirac_common::{NoMemory, Picture, Stop};
-use dirac_header::Transform;
+use dirac_common::{Picture, Stop};
+use dirac_decode_picture::DecodedPicture;
 use dirac_io::Source;
-use dirac_picture::{CodedPicture, CodedResidual};
 use dirac_refs::RefBuffer;
 use dirac_sequence_header::Sequence;
 use dirac_units::StreamEnd;
@@ -74,8 +71,9 @@ impl Decoder {
         self.state.sequence()
     }
 
-    /// Takes at most one unit: answers what `next_picture` would, or `None` where that unit showed no picture, or where
-    /// the end or a fault was met, which a later call answers.
+    /// Takes at most one unit: answers what `next_picture` would, or `None` where no picture leaves with that unit (at
+    /// the end of a sequence those that leave are due then), or where the end or a fault was met, which a later call
+    /// answers.
     pub fn step<S: Source>(&mut self, source: &mut S) -> Option<Next>
         requires { self.old.units.unit_place.at + length self.old.units.ahead + S.left source.old < 2 ^ 63 }
         ensures gives { StepGives result self.old self.new (S.held source.old) (S.held source.new) }
@@ -98,18 +96,15 @@ impl Decoder {
         ensures no_overflow { self.new.units.unit_place.at + length self.new.units.ahead + S.left source.new
             ≤ self.old.units.unit_place.at + length self.old.units.ahead + S.left source.old }
     {
-        self.keep_halves();
-        self.step_by(&read_in_turn, &rebuild_in_turn, source)
+        self.step_by(&decode_in_turn, source)
     }
 
-    /// One step, as `step`, where the subbands of planes are read by `planes`, and pictures are rebuilt by `make`.
+    /// One step, as `step`, where `decode` decodes each picture.
     pub fn step_by<
         S: Source,
-        P: Fn(Global, &mut BitReader<'_>, Transform, &Sequence) -> Result<CodedResidual, Stop>,
-        F: Fn(Global, &CodedPicture, &Sequence, &RefBuffer) -> Result<Picture, NoMemory>,
-    >(&mut self, planes: &P, make: &F, source: &mut S) -> Option<Next>
-        requires reads { ReadsPlanes (P.pre planes.now) (P.post planes.now) }
-        requires rebuilds { Rebuilds (F.pre make.now) (F.post make.now) }
+        F: Fn(Global, &[u8], u8, &Sequence, &mut RefBuffer) -> Result<DecodedPicture, Stop>,
+    >(&mut self, decode: &F, source: &mut S) -> Option<Next>
+        requires decodes { DecodesPictures (F.pre decode.now) (F.post decode.now) }
         requires no_overflow { self.old.units.unit_place.at + length self.old.units.ahead + S.left source.old < 2 ^ 63 }
         ensures gives { StepGives result self.old self.new (S.held source.old) (S.held source.new) }
         ensures at_most_one_unit { TakesOne result self.old self.new (S.held source.old) (S.held source.new) }
@@ -138,7 +133,7 @@ impl Decoder {
             return Some(Next::Shown(picture));
         }
         if let StreamEnd::Going = met {
-            return self.take_unit(planes, make, source);
+            return self.take_unit(decode, source);
         }
         Some(answer_behind(met))
     }
@@ -146,11 +141,9 @@ impl Decoder {
     /// Takes the next unit, where none is due before it.
     fn take_unit<
         S: Source,
-        P: Fn(Global, &mut BitReader<'_>, Transform, &Sequence) -> Result<CodedResidual, Stop>,
-        F: Fn(Global, &CodedPicture, &Sequence, &RefBuffer) -> Result<Picture, NoMemory>,
-    >(&mut self, planes: &P, make: &F, source: &mut S) -> Option<Next>
-        requires reads { ReadsPlanes (P.pre planes.now) (P.post planes.now) }
-        requires rebuilds { Rebuilds (F.pre make.now) (F.post make.now) }
+        F: Fn(Global, &[u8], u8, &Sequence, &mut RefBuffer) -> Result<DecodedPicture, Stop>,
+    >(&mut self, decode: &F, source: &mut S) -> Option<Next>
+        requires decodes { DecodesPictures (F.pre decode.now) (F.post decode.now) }
         requires no_overflow { self.old.units.unit_place.at + length self.old.units.ahead + S.left source.old < 2 ^ 63 }
         requires going { self.old.stream_end ≡ StreamEnd.Going }
         requires none_due { self.old.due ≡ [] }
@@ -170,14 +163,7 @@ impl Decoder {
         ensures no_overflow { self.new.units.unit_place.at + length self.new.units.ahead + S.left source.new
             ≤ self.old.units.unit_place.at + length self.old.units.ahead + S.left source.old }
     {
-        let taken = advance_by_unit(
-            planes,
-            make,
-            self.alloc,
-            &mut self.units,
-            &mut self.state,
-            source,
-        );
+        let taken = advance_by_unit(decode, self.alloc, &mut self.units, &mut self.state, source);
         let Turn {
             answer,
             shown,

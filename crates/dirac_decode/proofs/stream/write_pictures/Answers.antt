@@ -1,7 +1,8 @@
 use Rattle.std.proofs.Common.{◌+◌, ◌^◌, length, refl}
 use Rattle.dirac_content.proofs.Passing.{each_has_a_cut}
 use Rattle.dirac_decode.proofs.Counts.{below_on, fewer_left, le_itself, le_on, rose_since}
-use Rattle.dirac_decode.proofs.Streaming.{counted_to_end, counted_to_fault, counted_to_read_fault, counted_to_want, counted_to_write_fault, room_begun, underway_begun, underway_more, written_into, written_into_want, written_to_end, written_to_fault, written_to_read_fault, written_to_want}
+use Rattle.dirac_decode.proofs.Finishing.{room_begun, underway_begun, underway_more, written_into, written_into_want, written_to_end, written_to_fault, written_to_read_fault, written_to_want}
+use Rattle.dirac_decode.proofs.Streaming.{counted_to_end, counted_to_fault, counted_to_read_fault, counted_to_want, counted_to_write_fault}
 use Rattle.dirac_decode.proofs.stream.write_pictures.Goals as goal
 
 pub pictures-init : goal.pictures-init
@@ -37,7 +38,7 @@ returns-in-Failed g c =
     let after = c.in-Shown.ensures in
     record {
       written = written_into c.pictures.decoder c.next_picture_by.new.self c.in-Shown.picture (g.S.Source.held c.args.source.now) (g.S.Source.held c.pictures.source) (g.S.Source.held c.next_picture_by.new.source) (g.K.Sink.taken c.args.out.now) (g.K.Sink.taken c.pictures.out) (g.K.Sink.taken c.put_picture.new.out)
-          each_has_a_cut so.underway after.none_ahead after.gives c.in-Failed.ensures.front;
+          each_has_a_cut so.underway after.whole after.none_ahead after.gives c.in-Failed.ensures.front;
       faults = counted_to_write_fault (g.S.Source.faults c.args.source.now) (g.S.Source.faults c.next_picture_by.new.source) (g.K.Sink.faults c.args.out.now) (g.K.Sink.faults c.put_picture.new.out) (rose_since (g.K.Sink.faults c.args.out.now) (g.K.Sink.faults c.pictures.out) (g.K.Sink.faults c.put_picture.new.out) so.writes (c.in-Failed.ensures.failed refl))
           (le_on (g.S.Source.faults c.args.source.now) (g.S.Source.faults c.pictures.source) (g.S.Source.faults c.next_picture_by.new.source) so.reads after.count) (le_on (g.K.Sink.faults c.args.out.now) (g.K.Sink.faults c.pictures.out) (g.K.Sink.faults c.put_picture.new.out) so.writes c.in-Failed.ensures.count);
     }
@@ -48,7 +49,7 @@ returns-in-NoMemory-put_picture g c =
     let after = c.in-Shown.ensures in
     record {
       written = written_into_want c.pictures.decoder c.next_picture_by.new.self c.in-Shown.picture (g.S.Source.held c.args.source.now) (g.S.Source.held c.pictures.source) (g.S.Source.held c.next_picture_by.new.source) (g.K.Sink.taken c.args.out.now) (g.K.Sink.taken c.pictures.out) (g.K.Sink.taken c.put_picture.new.out)
-          each_has_a_cut so.underway after.none_ahead after.gives c.in-NoMemory-put_picture.ensures.front;
+          each_has_a_cut so.underway after.whole after.none_ahead after.gives c.in-NoMemory-put_picture.ensures.front;
       faults = counted_to_want (g.S.Source.faults c.args.source.now) (g.S.Source.faults c.next_picture_by.new.source) (g.K.Sink.faults c.args.out.now) (g.K.Sink.faults c.put_picture.new.out) (le_on (g.S.Source.faults c.args.source.now) (g.S.Source.faults c.pictures.source) (g.S.Source.faults c.next_picture_by.new.source) so.reads after.count)
           (le_on (g.K.Sink.faults c.args.out.now) (g.K.Sink.faults c.pictures.out) (g.K.Sink.faults c.put_picture.new.out) so.writes c.in-NoMemory-put_picture.ensures.count);
     }

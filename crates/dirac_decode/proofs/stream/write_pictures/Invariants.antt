@@ -1,5 +1,5 @@
 use Rattle.std.proofs.Common.{◌+◌, ◌-◌, ◌^◌, ◌≤◌, length}
-use Rattle.dirac_decode.proofs.Streaming.{IsUnderway}
+use Rattle.dirac_decode.proofs.Finishing.{IsUnderway}
 use Rattle.dirac_decode.proofs.stream.write_pictures.Given as goal
 
 abbrev pub invariant-pictures : goal.invariant-pictures

@@ -1,0 +1,72 @@
+ghost use Rattle.std.specs.Prelude.{◌≡◌, ◌≤◌, length, IfErr, IfOk, IsTrue};
+ghost use Rattle.std.specs.Thread.{IsSync};
+ghost use Rattle.dirac_bits.specs.Answers.{IsEarly};
+ghost use Rattle.dirac_sequence_header.specs.Lawful.{IsSequence};
+ghost use Rattle.dirac_picture.specs.Answers.{GivesOrStops};
+ghost use Rattle.dirac_picture.specs.Fits.{FitsSequence};
+ghost use Rattle.dirac_picture.specs.Grammar.{are_listed, is_picture, picture_read};
+ghost use Rattle.dirac_picture.specs.Reading.{CanBeRead, ReadsThem};
+ghost use Rattle.dirac_decode_picture.specs.Payload.{CanBeDecoded, DecodesPayload};
+
+use crate::crew::Crew;
+use dirac_bits::BitReader;
+use dirac_common::{RowGate, Stop};
+use dirac_decode_picture::DecodedPicture;
+use dirac_parameters::Transform;
+use dirac_picture::{CodedPicture, CodedResidual, read_picture_by};
+use dirac_refs::{RefBuffer, reference_of};
+use dirac_sequence_header::Sequence;
+use dirac_slices::{read_planes_rows, rebuild_rows};
+use std::alloc::Global;
+use std::marker::Sync;
+use std::thread::Threads;
+
+/// Reads a picture from the payload of its unit, the bands of its planes by workers.
+fn read_by_rows<R: Threads + Sync, G: RowGate>(
+    crew: &Crew<R, G>,
+    alloc: Global,
+    payload: &[u8],
+    code: u8,
+    sequence: &Sequence,
+    refs: &RefBuffer,
+) -> Result<CodedPicture, Stop>
+    requires code { IsTrue (is_picture code) }
+    requires sequence { IsSequence sequence.now }
+    ensures value { GivesOrStops result (picture_read code sequence.now refs.now payload.now) }
+    ensures place_inside { IfErr result (IsEarly (length payload.now)) }
+    ensures fits { IfOk result (FitsSequence code sequence.now) }
+    ensures listed { IfOk result (λ p. IsTrue (are_listed refs.now p.header)) }
+{
+    let (rt, workers, gate) = (crew.rt, crew.workers, crew.gate);
+    let planes = |alloc: Global, r: &mut BitReader<
+        '_,
+    >, transform: Transform, sequence: &Sequence| -> Result<CodedResidual, Stop>
+        requires { IsSync R.row × IsSync G.row × (1 ≤ workers) × (workers ≤ 64) × CanBeRead sequence.now transform }
+        ensures { ReadsThem sequence.now transform r.old result r.new }
+    { read_planes_rows(rt, alloc, r, transform, sequence, workers, gate) };
+    read_picture_by(&planes, alloc, payload, code, sequence, refs)
+}
+
+/// Reads a picture from the payload of its unit and rebuilds it, both by workers that share its rows.
+pub(crate) fn decode_by_rows<R: Threads + Sync, G: RowGate>(
+    crew: &Crew<R, G>,
+    alloc: Global,
+    payload: &[u8],
+    code: u8,
+    sequence: &Sequence,
+    refs: &RefBuffer,
+) -> Result<DecodedPicture, Stop>
+    requires { CanBeDecoded code sequence.now refs.now }
+    ensures { DecodesPayload payload.now code sequence.now refs.now result refs.now }
+{
+    let coded = read_by_rows(crew, alloc, payload, code, sequence, refs)?;
+    let (rt, workers, gate) = (crew.rt, crew.workers, crew.gate);
+    let picture = rebuild_rows(rt, alloc, &coded, sequence, refs, workers, gate)?;
+    let reference = reference_of(alloc, code, &picture)?;
+    Ok(DecodedPicture {
+        code,
+        header: coded.header,
+        picture,
+        reference,
+    })
+}
