@@ -1,19 +1,7 @@
 ghost use Rattle.std.specs.Prelude.{◌≡◌, ◌+◌, ◌*◌, ◌^◌, ◌≤◌, length};
-ghost use Rattle.dirac_block_table.specs.Filling.{row_filled, rows_filled};
+ghost use Rattle.dirac_block_table.specs.Filling.{rows_filled};
 
 use crate::block::Block;
-
-/// Writes a block to `count` places from `start` on.
-fn fill_row(blocks: &mut Vec<Block>, start: usize, block: Block, count: usize)
-    requires inside { start + count ≤ length blocks.old.items }
-    requires at_most_2_24 { length blocks.old.items ≤ 2 ^ 24 }
-    ensures exact { blocks.new.items ≡ row_filled blocks.old.items start block count }
-    ensures len { length blocks.new.items ≡ length blocks.old.items }
-{
-    'places: for n in 0..count {
-        blocks[start + n] = block;
-    }
-}
 
 /// Writes a block to `count` rows of `size` places, from column `i` of row `j` on.
 pub fn fill_rows(
@@ -33,6 +21,9 @@ pub fn fill_rows(
     ensures len { length blocks.new.items ≡ length blocks.old.items }
 {
     'rows: for n in 0..count {
-        fill_row(blocks, (j + n) * width + i, block, size);
+        let start = (j + n) * width + i;
+        'places: for k in 0..size {
+            blocks[start + k] = block;
+        }
     }
 }
