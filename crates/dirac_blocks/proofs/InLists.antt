@@ -12,6 +12,11 @@ use Rattle.dirac_blocks.specs.Parts.{list_decisions, list_part, part_at}
 use Rattle.dirac_blocks.proofs.InContexts.{in_parts, in_split_rows}
 use Rattle.dirac_blocks.proofs.Narrowing.{split_row_next, split_rows_next, superblock_row_next, superblock_rows_next}
 
+-- the list that has no kind
+pub none_is : (list : Option ListKind) → ((part : ListKind) → list ≡ Some part → ⊥) → list ≡ None
+none_is None other = refl
+none_is (Some part) other = absurd (other part refl)
+
 -- superblock after superblock is what a list reads
 pub by_superblocks : (list : Option ListKind) (t : BlockTable) (r : Reading) {y : Result (BlockTable × Reading) Cause}
     → read_coded (repeated (λ sy. repeated (list_step list sy) t.across) t.down t) r ≡ y → read_coded (step_of list t) r ≡ y

@@ -8,9 +8,7 @@ mod parts;
 mod reader;
 mod split_reader;
 mod split_writer;
-mod unit_loops;
 mod unit_reader;
-mod unit_reading;
 mod unit_writer;
 mod writer;
 

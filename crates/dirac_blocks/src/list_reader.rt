@@ -6,10 +6,10 @@ ghost use Rattle.dirac_blocks.specs.Reached.{AllGrey, BlockIsRead, ListIsRead, S
 
 use crate::parts::{LISTS, ListKind, is_there, nth_list};
 use crate::split_reader::read_split;
-use crate::unit_reading::read_superblock;
+use crate::unit_reader::read_unit_block;
 use dirac_arith::Decoder;
 use dirac_bits::BitReader;
-use dirac_block_table::BlockData;
+use dirac_block_table::{BlockData, unit_blocks, units_across};
 use dirac_common::{Cause, Refusal};
 
 /// Reads what a list tells of superblock `sx` of row `sy`: how it is split, or what a part tells of its units.
@@ -29,10 +29,25 @@ fn read_cell(
     ensures blocks { list ≡ None → table.new.blocks ≡ table.old.blocks }
     ensures few_doublings { decoder.new.at.doublings ≤ decoder.old.at.doublings + 11232 }
 {
-    match list {
-        None => read_split(decoder, table, sx, sy),
-        Some(part) => read_superblock(decoder, table, part, sx, sy),
+    let Some(part) = list else {
+        return read_split(decoder, table, sx, sy);
+    };
+    let split = table.split(sx, sy);
+    let size = unit_blocks(split) as u32;
+    let across = units_across(split) as u32;
+    let left = 4 * sx;
+    let top = 4 * sy;
+    'rows: for v in 0..across {
+        let row = top + v * size;
+        'units: for u in 0..across {
+            let column = left + u * size;
+            match read_unit_block(decoder, table, part, column, row) {
+                Ok(block) => table.set_unit(size, column, row, block),
+                Err(cause) => return Err(cause),
+            }
+        }
     }
+    Ok(())
 }
 
 /// Reads what a list tells from its arithmetic block: of each unit, or, where no part is named, the splits.

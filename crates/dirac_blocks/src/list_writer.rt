@@ -5,9 +5,9 @@ ghost use Rattle.dirac_blocks.specs.Parts.{list_decisions, list_part};
 
 use crate::parts::ListKind;
 use crate::split_writer::write_split;
-use crate::unit_loops::write_superblock;
+use crate::unit_writer::write_unit;
 use dirac_arith::Encoder;
-use dirac_block_table::BlockData;
+use dirac_block_table::{BlockData, unit_blocks, units_across};
 use dirac_common::NoMemory;
 use std::alloc::Global;
 
@@ -23,10 +23,25 @@ fn write_cell(
     requires row { sy < table.now.down }
     ensures { OnOk result (encoder.new ≡ narrowed_by encoder.old (list_part list table.now sx sy)) }
 {
-    match list {
-        None => write_split(encoder, table, sx, sy),
-        Some(part) => write_superblock(encoder, table, part, sx, sy),
+    let Some(part) = list else {
+        return write_split(encoder, table, sx, sy);
+    };
+    let split = table.split(sx, sy);
+    let size = unit_blocks(split) as u32;
+    let across = units_across(split) as u32;
+    let left = 4 * sx;
+    let top = 4 * sy;
+    'rows: for v in 0..across {
+        let row = top + v * size;
+        'units: for u in 0..across {
+            let column = left + u * size;
+            match write_unit(encoder, table, part, column, row) {
+                Ok(()) => {}
+                Err(e) => return Err(e),
+            }
+        }
     }
+    Ok(())
 }
 
 /// The arithmetic block of a list.

@@ -1,14 +1,12 @@
-ghost use Rattle.std.specs.Prelude.{◌≡◌, ◌-ℤ◌, ◌*◌, ◌<◌, length, OnOk};
+ghost use Rattle.std.specs.Prelude.{◌≡◌, ◌*◌, ◌<◌, OnOk};
 ghost use Rattle.dirac_arith.specs.Interval.{narrowed_by};
-ghost use Rattle.dirac_arith.specs.Spelling.{AreContexts, signed_spelling};
-ghost use Rattle.dirac_vectors.specs.Neighbours.{IsShort};
 ghost use Rattle.dirac_blocks.specs.Decisions.{differ, mode_part};
 ghost use Rattle.dirac_blocks.specs.Parts.{component_list, part_at};
 
 use crate::parts::{Axis, ListKind, component};
 use dirac_arith::{
-    CONTEXTS, DC_DIGITS, DC_FOLLOW, DC_SIGN, Encoder, REFERENCE_1, REFERENCE_2, VECTOR_DIGITS,
-    VECTOR_FOLLOW, VECTOR_SIGN,
+    DC_DIGITS, DC_FOLLOW, DC_SIGN, Encoder, REFERENCE_1, REFERENCE_2, VECTOR_DIGITS, VECTOR_FOLLOW,
+    VECTOR_SIGN,
 };
 use dirac_block_table::{
     BlockData, Reference, dc, predicted_dc, predicted_use_bit, predicted_vector, vector,
@@ -23,28 +21,6 @@ pub fn differs(a: bool, b: bool) -> bool
         true => !b,
         false => b,
     }
-}
-
-/// Writes a value less its prediction.
-fn write_less(
-    encoder: &mut Encoder,
-    follow: &[u8],
-    bits: u8,
-    sign: u8,
-    prediction: i32,
-    value: i32,
-) -> Result<(), NoMemory>
-    requires not_empty { 0 < length follow.now }
-    requires follow { AreContexts follow.now }
-    requires bits { bits < CONTEXTS }
-    requires sign { sign < CONTEXTS }
-    requires prediction { IsShort prediction }
-    requires value { IsShort value }
-    ensures { OnOk result (encoder.new ≡ narrowed_by encoder.old
-        (signed_spelling follow.now bits sign (value -ℤ prediction))) }
-{
-    let difference = i64::from(value) - i64::from(prediction);
-    encoder.signed(follow, bits, sign, difference)
 }
 
 /// Writes which references a unit uses, by its first block.
@@ -67,7 +43,7 @@ fn write_modes(encoder: &mut Encoder, table: &BlockData, i: u32, j: u32) -> Resu
     }
 }
 
-/// Writes a component of a unit's vector, by its first block.
+/// Writes a component of a unit's vector less its prediction, by its first block.
 fn write_vector(
     encoder: &mut Encoder,
     table: &BlockData,
@@ -84,18 +60,14 @@ fn write_vector(
     let prediction = component(predicted_vector(table, reference, i, j), axis);
     match vector(table, reference, i, j) {
         None => Ok(()),
-        Some(v) => write_less(
-            encoder,
-            &VECTOR_FOLLOW,
-            VECTOR_DIGITS,
-            VECTOR_SIGN,
-            prediction,
-            component(v, axis),
-        ),
+        Some(v) => {
+            let difference = i64::from(component(v, axis)) - i64::from(prediction);
+            encoder.signed(&VECTOR_FOLLOW, VECTOR_DIGITS, VECTOR_SIGN, difference)
+        }
     }
 }
 
-/// Writes a DC value of a unit, by its first block.
+/// Writes a DC value of a unit less its prediction, by its first block.
 fn write_dc(
     encoder: &mut Encoder,
     table: &BlockData,
@@ -110,7 +82,10 @@ fn write_dc(
     let prediction = predicted_dc(table, component, i, j);
     match dc(table, component, i, j) {
         None => Ok(()),
-        Some(value) => write_less(encoder, &DC_FOLLOW, DC_DIGITS, DC_SIGN, prediction, value),
+        Some(value) => {
+            let difference = i64::from(value) - i64::from(prediction);
+            encoder.signed(&DC_FOLLOW, DC_DIGITS, DC_SIGN, difference)
+        }
     }
 }
 

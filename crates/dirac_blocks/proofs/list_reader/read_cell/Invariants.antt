@@ -3,7 +3,7 @@ use Rattle.dirac_arith.specs.Coded.{read_coded}
 use Rattle.dirac_blocks.specs.Grammar.{unit_rows_step}
 use Rattle.dirac_blocks.specs.Reached.{SameShape}
 use Rattle.dirac_blocks.proofs.Shapes.{UnitsReached}
-use Rattle.dirac_blocks.proofs.unit_reading.read_superblock.Given as goal
+use Rattle.dirac_blocks.proofs.list_reader.read_cell.Given as goal
 
 abbrev pub invariant-rows : goal.invariant-rows
 invariant-rows l =
