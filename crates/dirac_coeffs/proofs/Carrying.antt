@@ -1,5 +1,5 @@
 -- The neighbours of a value that is read or written next, carried along a row.
-use Rattle.std.proofs.Common.{◌≡◌, ◌≢◌, ℕ, ℤ, pos, ◌+◌, ◌-◌, ◌*◌, ◌<◌, List, length, get_or, set, slice_set, Result, Ok, Err, refl, arith, inl, inr, ap, ap₂, sym, ◌∙◌, eq-eqb}
+use Rattle.std.proofs.Common.{◌≡◌, ◌≢◌, ℕ, ℤ, pos, ◌+◌, ◌-◌, ◌*◌, ◌<◌, List, length, get_or, set, slice_set, Result, Ok, Err, refl, arith, inl, inr, ap, ap₂, of_z, to_z, w32, w64, sym, ◌∙◌, eq-eqb}
 use Rattle.std.proofs.lemmas.Bool.{cases_eq, ne_eqb}
 use Rattle.std.proofs.lemmas.List.{get_or-set_same, get_or-set_other}
 use Rattle.dirac_common.specs.declared.faults.Cause.{Cause}
@@ -46,6 +46,10 @@ above_kept w xs x y v fits = elim (cases_eq y 0) [
 -- what was above is above that
 pub corner_next : (w : ℕ) (xs : List ℤ) (x y n : ℕ) (v above : ℤ) → x < w → above ≡ value_above w xs x y → n ≡ x + 1 → above ≡ value_in_corner w (set xs (y * w + x) v) n y
 corner_next w xs x y n v above fits h e = h ∙ above_kept w xs x y v fits ∙ corner_behind w (set xs (y * w + x) v) x y n e
+
+-- the lower half of a number is the number, where it is equal to it in 64 bits
+pub half_same : (v half from : ℤ) → from ≡ to_z w32 (of_z w32 half) → to_z w64 (of_z w64 from) ≡ from → to_z w64 (of_z w64 v) ≡ v → of_z w64 from ≡ of_z w64 v → to_z w32 (of_z w32 half) ≡ v
+half_same v half from is f g e = sym is ∙ sym f ∙ ap (to_z w64) e ∙ g
 
 -- a number under other names of its contexts
 pub number_read : {fs gs : List ℕ} {a b : ℕ} {q : Result (ℤ × Reading) Cause} (bits : ℕ) (r : Reading) → fs ≡ gs → a ≡ b → signed_read fs bits a r ≡ q → signed_read gs bits b r ≡ q

@@ -3,11 +3,9 @@ use Rattle.std.proofs.Common.{◌≡◌, ℕ, zero, suc, ℤ, pos, negsuc, ◌+�
 use Rattle.std.specs.List.{All}
 use Rattle.std.proofs.lemmas.Bool.{and_parts, cases_Bool, cases_eq, ne_eqb}
 use Rattle.std.proofs.lemmas.List.{get_or-set_other, get_or-set_same, take-append-le, take_all}
-use Rattle.dirac_coeffs.specs.declared.coefficients.NarrowRows.{NarrowRows}
-use Rattle.dirac_coeffs.specs.declared.coefficients.Held.TheVariants.{Narrow}
 use Rattle.dirac_common.specs.Table.{Table}
 use Rattle.dirac_coeffs.specs.Contexts.{is_zero}
-use Rattle.dirac_coeffs.specs.Held.{IsHeld, IsLargest, held_table, zeros_of}
+use Rattle.dirac_coeffs.specs.Held.{IsLargest, zeros_of}
 use Rattle.dirac_coeffs.specs.Written.{is_zero_band}
 use Rattle.dirac_coeffs.proofs.Edges.{rows_inside}
 use Rattle.std.proofs.lemmas.Nat.{mul-le}
@@ -99,17 +97,19 @@ zeros_table t width height largest across down whole is none =
 pub filled : (len : ℕ) (new old : List ℤ) → length new ≡ len → take len (new ++ drop (length new) old) ≡ new
 filled len new old e = take-append-le len new (drop (length new) old) (omega (arith, e)) ∙ take_all len new (omega (arith, e))
 
--- a place of rows in 32 bits is inside their list, and small
-pub held_inside : (r : NarrowRows) (t : Table) (x y largest : ℕ) → held_table (Narrow r) ≡ t → IsHeld (Narrow r) largest → x < t.width → y < t.height → (y * r.size.width + x < length r.values.items) × (y * r.size.width ≤ 8192 * 8192) × (x < 8192)
-held_inside r t x y largest same is column row =
-    let across : x < r.size.width = subst (λ (u : Table). x < u.width) (sym same) column in
-    let down : y < r.size.height = subst (λ (u : Table). y < u.height) (sym same) row in
-    let inside = rows_inside (y + 1) r.size.width r.size.height (length r.values.items) (omega (arith, down)) is.whole in
-    (omega (arith, inside, across), mul-le y r.size.width 8192 8192 (omega (arith, down, is.down)) is.across.1, omega (arith, across, is.across))
+-- a place of values that are held is inside their list, and small
+pub held_inside : (w h : ℕ) (xs : List ℤ) (t : Table) (x y : ℕ) → record { width = w; height = h; values = xs } ≡ t → w ≤ 8192 → h ≤ 8192 → length xs ≡ w * h → x < t.width → y < t.height
+    → (y * w + x < length xs) × (y * w ≤ 8192 * 8192) × (x < 8192)
+held_inside w h xs t x y same across down whole column row =
+    let left : x < w = subst (λ (u : Table). x < u.width) (sym same) column in
+    let above : y < h = subst (λ (u : Table). y < u.height) (sym same) row in
+    let inside = rows_inside (y + 1) w h (length xs) (omega (arith, above)) whole in
+    (omega (arith, inside, left), mul-le y w 8192 8192 (omega (arith, above, down)) across, omega (arith, left, across))
 
 -- and so is a row of them
-pub held_row : (r : NarrowRows) (t : Table) (y largest : ℕ) → held_table (Narrow r) ≡ t → IsHeld (Narrow r) largest → y < t.height → (y * r.size.width + r.size.width ≤ length r.values.items) × (y * r.size.width ≤ 8192 * 8192) × (r.size.width ≤ 8192)
-held_row r t y largest same is row =
-    let down : y < r.size.height = subst (λ (u : Table). y < u.height) (sym same) row in
-    let inside = rows_inside (y + 1) r.size.width r.size.height (length r.values.items) (omega (arith, down)) is.whole in
-    (omega (arith, inside), mul-le y r.size.width 8192 8192 (omega (arith, down, is.down)) is.across.1, is.across.1)
+pub held_row : (w h : ℕ) (xs : List ℤ) (t : Table) (y : ℕ) → record { width = w; height = h; values = xs } ≡ t → w ≤ 8192 → h ≤ 8192 → length xs ≡ w * h → y < t.height
+    → (y * w + w ≤ length xs) × (y * w ≤ 8192 * 8192) × (w ≤ 8192)
+held_row w h xs t y same across down whole row =
+    let above : y < h = subst (λ (u : Table). y < u.height) (sym same) row in
+    let inside = rows_inside (y + 1) w h (length xs) (omega (arith, above)) whole in
+    (omega (arith, inside), mul-le y w 8192 8192 (omega (arith, above, down)) across, across)

@@ -22,12 +22,14 @@ use Rattle.dirac_arith.proofs.Led.{carried_reads, led_begin}
 use Rattle.dirac_bands.specs.Geometry.{edge_of}
 use Rattle.dirac_coeffs.specs.declared.layout.BandBlock.{BandBlock}
 use Rattle.dirac_coeffs.specs.declared.layout.BandLayout.{BandLayout}
+use Rattle.dirac_coeffs.specs.declared.layout.CodedBand.{CodedBand}
 use Rattle.dirac_coeffs.specs.declared.store.Unread.{Unread}
 use Rattle.dirac_coeffs.specs.declared.store.Unread.TheVariants as unread
 use Rattle.dirac_coeffs.specs.Answers.{Fills, GivesBlock, GivesNarrow, Goes, Holds, RefusedBy, stopped_at}
 use Rattle.dirac_coeffs.specs.BandRead.{Content, band_content, block_rows_step, blocks_step, unread, band_coded, band_read}
 use Rattle.dirac_coeffs.specs.Carried.{AreLawful, AreSmall, CarriesBand, BandBreaksOff, CarriesLong, CarriesNoIndex}
 use Rattle.dirac_coeffs.specs.Decisions.{Marks, band_decisions}
+use Rattle.dirac_coeffs.specs.Grammar.{IsCodedBand}
 use Rattle.dirac_coeffs.specs.Indices.{all_equal}
 use Rattle.dirac_coeffs.specs.Laws.{BandIsRead, PlainIsEqual, LongIsRefused, NoIndexIsRefused, OnesInBandAreRefused, OneBandIsCarried, NoBandBesideLong, NoBandBesideNoIndex, NotLongAndNoIndex, OnesCarryNothing}
 use Rattle.dirac_coeffs.specs.Layouts.{IsBandLayout}
@@ -289,6 +291,22 @@ block_lawful layout at parent index block (Err e) lawful few given = tt
 pub block_plain : (layout : BandLayout) (at : ℕ) (parent : List ℤ) (index : ℕ) (block : List ℕ) (r : Result BandBlock Stop) → IsBandLayout layout → IsIndex index → GivesBlock layout at r (band_read layout parent index block) → IfOk r (λ b. layout.mode ≡ 0 → b.indices ≡ all_equal layout index)
 block_plain layout at parent index block (Ok b) lawful few given = λ mode. plain_is_equal layout parent index block b.table.values b.indices lawful few mode given.1
 block_plain layout at parent index block (Err e) lawful few given = tt
+
+-- and the band of it is a coded one
+pub block_coded : (layout : BandLayout) (at : ℕ) (parent : List ℤ) (index : ℕ) (block : List ℕ) (b : BandBlock) → IsBandLayout layout → IsIndex index → GivesBlock layout at (Ok b) (band_read layout parent index block)
+    → (let c : CodedBand = record { index = index; indices = b.indices; table = b.table } in IsCodedBand layout c)
+block_coded layout at parent index block b lawful few given =
+    let l = (band_carried layout parent index block b.table.values b.indices lawful few given.1).1.lawful in
+    record {
+      index = few;
+      width = ap (λ (t : Table). t.width) given.0;
+      height = ap (λ (t : Table). t.height) given.0;
+      len = l.len;
+      small = l.small;
+      count = l.count;
+      each = l.each;
+      plain = λ mode. plain_is_equal layout parent index block b.table.values b.indices lawful few mode given.1;
+    }
 
 -- a refusal has the cause that the block breaks off by
 block_stops : (layout : BandLayout) (at : ℕ) (parent : List ℤ) (index : ℕ) (block : List ℕ) (r : Result BandBlock Stop) (cause : Cause) → r ≡ Err (stop.Refused (record { at = at; cause = cause })) → GivesBlock layout at r (band_read layout parent index block) → band_read layout parent index block ≡ Err cause

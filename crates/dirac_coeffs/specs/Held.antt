@@ -10,11 +10,15 @@ use Rattle.dirac_coeffs.specs.declared.coefficients.Held.TheVariants.{Zeros, Nar
 abbrev pub zeros_of : ℕ → ℕ → Table
 zeros_of width height = record { width = width; height = height; values = replicate (width * height) (pos 0) }
 
--- the table of the coefficients that are held
-abbrev pub held_table : Held → Table
-held_table (Zeros s) = zeros_of s.width s.height
-held_table (Narrow r) = record { width = r.size.width; height = r.size.height; values = r.values.items }
-held_table (Wide t) = t
+-- the coefficients that are held, of which there are that many
+abbrev pub held_values : ℕ → Held → List ℤ
+held_values count Zeros = replicate count (pos 0)
+held_values count (Narrow list) = list.items
+held_values count (Wide t) = t.values
+
+-- their table
+abbrev pub held_table : ℕ → ℕ → Held → Table
+held_table width height held = record { width = width; height = height; values = held_values (width * height) held }
 
 -- the largest magnitude: no value has a larger one, and no smaller number is as large as all
 pub record IsLargest (largest : ℕ) (xs : List ℤ) : Type 0 where
@@ -22,16 +26,16 @@ pub record IsLargest (largest : ℕ) (xs : List ℤ) : Type 0 where
   pub least : (m : ℕ) → All (λ v. unsigned_abs v ≤ m) xs → largest ≤ m
 
 -- how coefficients are held goes by the largest magnitude: without a list where it is 0 and with one where it isn't,
--- and wide only from 2^31 on
-abbrev pub IsFormFor : Held → ℕ → Type 0
-IsFormFor (Zeros s) largest = largest ≡ 0
-IsFormFor (Narrow r) largest = 1 ≤ largest
-IsFormFor (Wide t) largest = 2 ^ 31 ≤ largest
+-- and wide, as a table of these sizes, only from 2^31 on
+abbrev pub IsFormFor : ℕ → ℕ → Held → ℕ → Type 0
+IsFormFor width height Zeros largest = largest ≡ 0
+IsFormFor width height (Narrow list) largest = 1 ≤ largest
+IsFormFor width height (Wide t) largest = (2 ^ 31 ≤ largest) × (t.width ≡ width) × (t.height ≡ height)
 
 -- a band that is held: a table of sizes that a band may have, and its largest magnitude
-pub record IsHeld (held : Held) (largest : ℕ) : Type 0 where
-  pub across : (1 ≤ (held_table held).width) × ((held_table held).width ≤ LARGEST_TABLE_SIDE)
-  pub down : (1 ≤ (held_table held).height) × ((held_table held).height ≤ LARGEST_TABLE_SIDE)
-  pub whole : length (held_table held).values ≡ (held_table held).width * (held_table held).height
-  pub most : IsLargest largest (held_table held).values
-  pub form : IsFormFor held largest
+pub record IsHeld (width height : ℕ) (held : Held) (largest : ℕ) : Type 0 where
+  pub across : (1 ≤ width) × (width ≤ LARGEST_TABLE_SIDE)
+  pub down : (1 ≤ height) × (height ≤ LARGEST_TABLE_SIDE)
+  pub whole : length (held_values (width * height) held) ≡ width * height
+  pub most : IsLargest largest (held_values (width * height) held)
+  pub form : IsFormFor width height held largest

@@ -9,7 +9,7 @@ ghost use Rattle.dirac_common.specs.Limits.{IsIndex};
 
 use crate::codeblocks::{BandFrame, Filling, read_content};
 use crate::coefficients::Coefficients;
-use crate::indices::equal_indices;
+use crate::indices::Indices;
 use crate::layout::{BandBlock, BandLayout};
 use crate::numbers::Numbers;
 use crate::store::{Unread, Values};
@@ -44,7 +44,11 @@ fn empty_filling(alloc: Global, frame: BandFrame<'_>, wide: bool) -> Result<Fill
     ensures wide { wide ≡ true → IfOk result (λ f. IsNarrow f.values → ⊥) }
 {
     match zeros(alloc, frame.layout, wide) {
-        Ok(values) => match equal_indices(alloc, frame.layout, frame.index) {
+        Ok(values) => match Indices::try_new(
+            alloc,
+            frame.layout.across * frame.layout.down,
+            frame.index,
+        ) {
             Ok(indices) => Ok(Filling { values, indices }),
             Err(e) => Err(e),
         },
@@ -102,8 +106,14 @@ fn read_as(
     }
 }
 
-/// Reads a block in 32 bits, and where a value doesn't fit again in 64.
-fn read_lent(alloc: Global, block: &[u8], at: u64, frame: BandFrame<'_>) -> Result<BandBlock, Stop>
+/// The same as `read_block` with a parent whose values are lent: reads the block in 32 bits, and where a value doesn't
+/// fit again in 64.
+pub fn read_below(
+    alloc: Global,
+    block: &[u8],
+    at: u64,
+    frame: BandFrame<'_>,
+) -> Result<BandBlock, Stop>
     requires layout { IsBandLayout frame.layout }
     requires index { IsIndex frame.index }
     ensures { GivesBlock frame.entry.layout at result
@@ -118,33 +128,6 @@ fn read_lent(alloc: Global, block: &[u8], at: u64, frame: BandFrame<'_>) -> Resu
         },
         Err(stop) => Err(stop),
     }
-}
-
-/// The same as `read_block` with a parent whose values are lent.
-pub fn read_below(
-    alloc: Global,
-    block: &[u8],
-    at: u64,
-    layout: BandLayout,
-    parent: Numbers<'_>,
-    index: u8,
-) -> Result<BandBlock, Stop>
-    requires layout { IsBandLayout layout }
-    requires index { IsIndex index }
-    ensures value { GivesBlock layout at result (band_read layout (numbers_in parent.entry) index block.now) }
-    ensures lawful { IfOk result (λ b. AreLawful layout index b.table.values b.indices) }
-    ensures plain { IfOk result (λ b. layout.mode ≡ 0 → b.indices ≡ all_equal layout index) }
-    ensures long { result ≡ Err (Stop.Refused (record { at = at; cause = Cause.NumberTooLong }))
-        → CarriesLong layout (numbers_in parent.entry) index block.now }
-    ensures no_index { result ≡ Err (Stop.Refused (record { at = at; cause = Cause.QuantIndex }))
-        → CarriesNoIndex layout (numbers_in parent.entry) index block.now }
-{
-    let frame = BandFrame {
-        layout,
-        parent,
-        index,
-    };
-    read_lent(alloc, block, at, frame)
 }
 
 /// The coefficients of a subband from its arithmetic block (wavelet coefficients, Dirac specification, section 13), and
@@ -168,5 +151,10 @@ pub fn read_block(
     ensures no_index { result ≡ Err (Stop.Refused (record { at = at; cause = Cause.QuantIndex }))
         → CarriesNoIndex layout parent.now index block.now }
 {
-    read_below(alloc, block, at, layout, Numbers::Wide(parent), index)
+    let frame = BandFrame {
+        layout,
+        parent: Numbers::Wide(parent),
+        index,
+    };
+    read_below(alloc, block, at, frame)
 }

@@ -1,15 +1,23 @@
-ghost use Rattle.std.specs.Prelude.{◌≡◌, OnOk};
+ghost use Rattle.std.specs.Prelude.{◌≡◌, pos, ◌-◌, ◌^◌, ◌<◌, ◌-ℤ◌, OnOk, unsigned_abs};
 ghost use Rattle.dirac_arith.specs.Interval.{narrowed_by};
 ghost use Rattle.dirac_coeffs.specs.WrittenBand.{IsBlockToWrite, unskipped_block};
 ghost use Rattle.dirac_coeffs.specs.WrittenBand.{whole_block};
 
+use crate::indices::{codeblock_place, former_index};
 use crate::layout::WrittenBand;
-use crate::offset_writer::write_offset;
 use crate::spans::{Codeblock, has_flags};
 use crate::value_writer::write_block_values;
 use crate::zeros::has_zeros_alone;
-use dirac_arith::{Encoder, ZERO_FLAG};
+use dirac_arith::{Encoder, OFFSET_DIGITS, OFFSET_FOLLOW, OFFSET_SIGN, ZERO_FLAG};
 use dirac_common::NoMemory;
+
+/// What leads from a former index to an index.
+fn difference_of(index: u8, former: u8) -> i64
+    ensures value { result ≡ pos index -ℤ pos former }
+    ensures magnitude_can_be_spelt { unsigned_abs result < 2 ^ 39 - 1 }
+{
+    i64::from(index) - i64::from(former)
+}
 
 /// Writes a codeblock that isn't skipped: in mode 1 the offset of its index, and its values.
 fn write_unskipped(
@@ -21,7 +29,15 @@ fn write_unskipped(
     ensures { OnOk result (encoder.new ≡ narrowed_by encoder.old
         (unskipped_block band.entry codeblock.row codeblock.column)) }
 {
-    match write_offset(encoder, band, codeblock) {
+    if band.layout.mode == 0 {
+        return write_block_values(encoder, band, codeblock);
+    }
+    let c = codeblock_place(band.layout, codeblock);
+    let offset = difference_of(
+        band.indices.at(c),
+        former_index(band.indices, band.index, c),
+    );
+    match encoder.signed(&OFFSET_FOLLOW, OFFSET_DIGITS, OFFSET_SIGN, offset) {
         Ok(()) => write_block_values(encoder, band, codeblock),
         Err(e) => Err(e),
     }

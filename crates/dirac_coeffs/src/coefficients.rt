@@ -13,25 +13,11 @@ use dirac_common::{BandTable, LARGEST_TABLE_SIDE, NoMemory};
 use std::alloc::Global;
 use std::marker::Model;
 
-/// The columns and rows of a band.
-#[derive(Clone, Copy)]
-pub struct BandSize {
-    pub width: u32,
-    pub height: u32,
-}
-
-/// Numbers in 32 bits, by rows.
-#[derive(Drop)]
-pub struct NarrowRows {
-    size: BandSize,
-    values: Vec<i32>,
-}
-
-/// Coefficients in 32 bits where each of them fits, else wide; no list of them where all are zeros.
+/// Coefficients by rows, in 32 bits where each of them fits, else wide; no list of them where all are zeros.
 #[derive(Drop)]
 pub enum Held {
-    Zeros(BandSize),
-    Narrow(NarrowRows),
+    Zeros,
+    Narrow(Vec<i32>),
     Wide(BandTable),
 }
 
@@ -40,6 +26,8 @@ pub enum Held {
 /// They are seen as a table.
 #[derive(Drop)]
 pub struct Coefficients {
+    width: u32,
+    height: u32,
     held: Held,
     largest: u64,
 }
@@ -50,9 +38,9 @@ impl Model for Coefficients {
 
     ghost Value = { Table };
 
-    ghost view = { λ c. held_table c.held };
+    ghost view = { λ c. held_table c.width c.height c.held };
 
-    ghost invariant = { λ c. IsHeld c.held c.largest };
+    ghost invariant = { λ c. IsHeld c.width c.height c.held c.largest };
 }
 
 impl Coefficients {
@@ -62,9 +50,10 @@ impl Coefficients {
         requires down { (1 ≤ height) × (height ≤ LARGEST_TABLE_SIDE) }
         ensures { result ≡ zeros_of width height }
     {
-        let size = BandSize { width, height };
         Coefficients {
-            held: Held::Zeros(size),
+            width,
+            height,
+            held: Held::Zeros,
             largest: 0,
         }
     }
@@ -91,11 +80,15 @@ impl Coefficients {
     {
         let mut values = values;
         let narrowed = copy_narrowed(table.values(), values.as_mut_slice());
+        let width = table.width();
+        let height = table.height();
         if narrowed.all {
-            return Coefficients::of_rows(table.width(), table.height(), values, narrowed.largest);
+            return Coefficients::of_rows(width, height, values, narrowed.largest);
         }
         let largest = largest_of(table.values());
         Coefficients {
+            width,
+            height,
             held: Held::Wide(table),
             largest,
         }
@@ -112,10 +105,10 @@ impl Coefficients {
         if largest == 0 {
             return Coefficients::zeros(width, height);
         }
-        let size = BandSize { width, height };
-        let rows = NarrowRows { size, values };
         Coefficients {
-            held: Held::Narrow(rows),
+            width,
+            height,
+            held: Held::Narrow(values),
             largest: u64::from(largest),
         }
     }
@@ -159,8 +152,8 @@ impl Coefficients {
         ensures { numbers_in result ≡ self.now.values }
     {
         match &self.held {
-            Held::Zeros(size) => Numbers::Zeros(size.width as usize * size.height as usize),
-            Held::Narrow(rows) => Numbers::Narrow(rows.values.as_slice()),
+            Held::Zeros => Numbers::Zeros(self.width as usize * self.height as usize),
+            Held::Narrow(list) => Numbers::Narrow(list.as_slice()),
             Held::Wide(table) => Numbers::Wide(table.values()),
         }
     }
@@ -172,11 +165,7 @@ impl Coefficients {
         ensures at_least_1 { 1 ≤ result }
         ensures at_most_8192 { result ≤ LARGEST_TABLE_SIDE }
     {
-        match &self.held {
-            Held::Zeros(size) => size.width,
-            Held::Narrow(rows) => rows.size.width,
-            Held::Wide(table) => table.width(),
-        }
+        self.width
     }
 
     /// The number of rows.
@@ -186,11 +175,7 @@ impl Coefficients {
         ensures at_least_1 { 1 ≤ result }
         ensures at_most_8192 { result ≤ LARGEST_TABLE_SIDE }
     {
-        match &self.held {
-            Held::Zeros(size) => size.height,
-            Held::Narrow(rows) => rows.size.height,
-            Held::Wide(table) => table.height(),
-        }
+        self.height
     }
 
     /// The largest magnitude.
@@ -215,10 +200,8 @@ impl Coefficients {
         ensures { result ≡ table_at self.now x y }
     {
         match &self.held {
-            Held::Zeros(_size) => 0,
-            Held::Narrow(rows) => {
-                i64::from(rows.values[y as usize * rows.size.width as usize + x as usize])
-            }
+            Held::Zeros => 0,
+            Held::Narrow(list) => { i64::from(list[y as usize * self.width as usize + x as usize]) }
             Held::Wide(table) => table.at(x, y),
         }
     }
@@ -233,10 +216,10 @@ impl Coefficients {
         ensures no_list { All (λ v. v ≡ pos 0) self.now.values → result ≡ None }
     {
         match &self.held {
-            Held::Zeros(_size) => None,
-            Held::Narrow(rows) => {
-                let start = y as usize * rows.size.width as usize;
-                Some(&rows.values[start..start + rows.size.width as usize])
+            Held::Zeros => None,
+            Held::Narrow(list) => {
+                let start = y as usize * self.width as usize;
+                Some(&list[start..start + self.width as usize])
             }
             Held::Wide(_table) => None,
         }

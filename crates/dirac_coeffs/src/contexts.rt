@@ -90,20 +90,6 @@ pub fn are_zeros(left: i64, above: i64, corner: i64) -> bool
     is_zero_value(left) && (is_zero_value(above) && is_zero_value(corner))
 }
 
-/// The follow contexts of a coefficient's magnitude, the last of them repeated.
-#[inline(always)]
-pub fn follow_contexts(parent_is_zero: bool, neighbours_are_zero: bool) -> &'static [u8; 6]
-    ensures value { result.now ≡ follow_of parent_is_zero neighbours_are_zero }
-    ensures contexts { AreContexts result.now }
-{
-    match (parent_is_zero, neighbours_are_zero) {
-        (true, true) => &ZERO_PARENT_ZEROS,
-        (true, false) => &ZERO_PARENT_VALUES,
-        (false, true) => &PARENT_ZEROS,
-        (false, false) => &PARENT_VALUES,
-    }
-}
-
 /// The first follow context of a coefficient's magnitude among these neighbours, under which it is decided whether the
 /// coefficient is 0.
 #[inline(always)]
@@ -117,23 +103,19 @@ pub fn first_among(left: i64, above: i64, corner: i64, parent: i64) -> u8
     2 * u8::from(!parent_is_zero) + u8::from(!neighbours_are_zero)
 }
 
-/// The follow contexts of a coefficient's magnitude, by the first of them, which is below 4.
+/// The follow contexts of a coefficient's magnitude, by the first of them, which is below 4; the last is repeated.
 #[inline(always)]
 pub fn follow_from(first: u8) -> &'static [u8; 6]
     ensures value { (parent neighbours : Bool) → first ≡ follow_at (follow_of parent neighbours) 0
         → result.now ≡ follow_of parent neighbours }
     ensures contexts { AreContexts result.now }
 {
-    follow_contexts(first < 2, first % 2 == 0)
-}
-
-/// The follow contexts among these neighbours.
-#[inline(always)]
-pub fn follow_among(left: i64, above: i64, corner: i64, parent: i64) -> &'static [u8; 6]
-    ensures value { result.now ≡ follow_of (is_zero parent) (is_zero left && (is_zero above && is_zero corner)) }
-    ensures contexts { AreContexts result.now }
-{
-    follow_contexts(is_zero_value(parent), are_zeros(left, above, corner))
+    match first {
+        0 => &ZERO_PARENT_ZEROS,
+        1 => &ZERO_PARENT_VALUES,
+        2 => &PARENT_ZEROS,
+        _ => &PARENT_VALUES,
+    }
 }
 
 /// The value whose sign the sign's context goes by.

@@ -52,14 +52,6 @@ impl Indices {
     }
 }
 
-/// The indices of a band's codeblocks that are all its own.
-pub fn equal_indices(alloc: Global, layout: BandLayout, index: u8) -> Result<Indices, NoMemory>
-    requires { IsBandLayout layout }
-    ensures { IfOk result (λ i. i ≡ spec.all_equal layout index) }
-{
-    Indices::try_new(alloc, layout.across * layout.down, index)
-}
-
 /// The place of a codeblock among all, counted by rows.
 pub fn codeblock_place(layout: BandLayout, codeblock: Codeblock) -> u32
     requires layout { IsBandLayout layout }

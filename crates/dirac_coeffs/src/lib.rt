@@ -14,7 +14,6 @@ mod indices;
 mod laws;
 mod layout;
 mod numbers;
-mod offset_writer;
 mod offsets;
 mod rows;
 mod shared;

@@ -1,4 +1,4 @@
-ghost use Rattle.std.specs.Prelude.{◌≡◌, ⊤, ◌+◌, ◌*◌, ◌^◌, ◌<◌, ◌≤◌, length};
+ghost use Rattle.std.specs.Prelude.{◌≡◌, ◌+◌, ◌*◌, ◌^◌, ◌<◌, ◌≤◌, length};
 ghost use Rattle.dirac_arith.specs.Coded.{read_coded};
 ghost use Rattle.dirac_coeffs.specs.Answers.{Goes};
 ghost use Rattle.dirac_coeffs.specs.BandRead.{filled_step, row_step};
@@ -15,34 +15,8 @@ use crate::wide_values::read_wide_row;
 use dirac_arith::Decoder;
 use dirac_common::LARGEST_TABLE_SIDE;
 
-/// Reads the values of these columns of row `y` in 32 bits, where the parent is held so or has zeros alone, which
+/// Reads the values of these columns of row `y`: in 32 bits where the parent is held so or has zeros alone, which
 /// contexts see as they do no parent.
-fn read_row_in_32_bits(
-    decoder: &mut Decoder<'_>,
-    values: &mut [i32],
-    layout: BandLayout,
-    parent: Numbers<'_>,
-    y: usize,
-    columns: Span,
-) -> Result<(), Unread>
-    requires columns { columns.start + columns.length ≤ layout.width }
-    requires width { layout.width ≤ LARGEST_TABLE_SIDE }
-    requires row { y < LARGEST_TABLE_SIDE }
-    requires inside { (y + 1) * layout.width ≤ length values.old }
-    requires no_overflow { decoder.old.at.doublings < 2 ^ 60 }
-    ensures value { Goes ⊤ result values.new decoder.new (read_coded (row_step
-        (frame_of layout (numbers_in parent.entry)) y columns.start columns.length values.old) decoder.old) }
-    ensures len { length values.new ≡ length values.old }
-    ensures few_doublings { decoder.new.at.doublings ≤ decoder.old.at.doublings + 702 * columns.length }
-{
-    match parent {
-        Numbers::Zeros(_count) => read_narrow_row(decoder, values, layout, &[], y, columns),
-        Numbers::Narrow(list) => read_narrow_row(decoder, values, layout, list, y, columns),
-        Numbers::Wide(_list) => Err(Unread::TooWide),
-    }
-}
-
-/// Reads the values of these columns of row `y`.
 fn read_row(
     decoder: &mut Decoder<'_>,
     values: &mut Values,
@@ -66,7 +40,11 @@ fn read_row(
     match values {
         Values::Narrow(list) => {
             let list = list.as_mut_slice();
-            read_row_in_32_bits(decoder, list, layout, parent, y, columns)
+            match parent {
+                Numbers::Zeros(_count) => read_narrow_row(decoder, list, layout, &[], y, columns),
+                Numbers::Narrow(below) => read_narrow_row(decoder, list, layout, below, y, columns),
+                Numbers::Wide(_below) => Err(Unread::TooWide),
+            }
         }
         Values::Wide(list) => {
             read_wide_row(decoder, list.as_mut_slice(), layout, parent, y, columns)

@@ -7,8 +7,9 @@ ghost use Rattle.dirac_coeffs.specs.Layouts.{IsBandLayout};
 ghost use Rattle.dirac_coeffs.specs.Sites.{band_at};
 
 use crate::block::read_below;
+use crate::codeblocks::BandFrame;
 use crate::coefficients::{Coefficients, numbers_of};
-use crate::indices::equal_indices;
+use crate::indices::Indices;
 use crate::layout::{BandLayout, CodedBand};
 use crate::site::Site;
 use dirac_common::Stop;
@@ -20,7 +21,7 @@ fn read_zeros(alloc: Global, layout: BandLayout) -> Result<CodedBand, Stop>
     ensures value { GivesOrStops result (Ok (zero_band layout)) }
     ensures lawful { IfOk result (IsCodedBand layout) }
 {
-    match equal_indices(alloc, layout, 0) {
+    match Indices::try_new(alloc, layout.across * layout.down, 0) {
         Ok(indices) => Ok(CodedBand {
             index: 0,
             indices,
@@ -48,14 +49,12 @@ pub fn read_at(
         return read_zeros(alloc, layout);
     };
     let index = found.index();
-    match read_below(
-        alloc,
-        found.block(),
-        found.at(),
+    let frame = BandFrame {
         layout,
-        numbers_of(parent),
+        parent: numbers_of(parent),
         index,
-    ) {
+    };
+    match read_below(alloc, found.block(), found.at(), frame) {
         Ok(read) => Ok(CodedBand {
             index,
             indices: read.indices,

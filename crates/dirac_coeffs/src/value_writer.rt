@@ -1,17 +1,18 @@
-ghost use Rattle.std.specs.Prelude.{◌≡◌, ◌+◌, ◌*◌, ◌<◌, ◌≤◌, ◌^◌, ◌-◌, length, IfOk, OnOk, unsigned_abs};
+ghost use Rattle.std.specs.Prelude.{◌≡◌, ◌+◌, ◌<◌, ◌≤◌, ◌^◌, ◌-◌, Bool, IfOk, OnOk, unsigned_abs};
 ghost use Rattle.dirac_arith.specs.Interval.{narrowed_by};
-ghost use Rattle.dirac_coeffs.specs.Carried.{AreSmall};
+ghost use Rattle.dirac_arith.specs.Spelling.{follow_at, signed_spelling};
+ghost use Rattle.dirac_coeffs.specs.Contexts.{bits_context, follow_of, sign_neighbour, sign_of};
 ghost use Rattle.dirac_coeffs.specs.Contexts.{value_in_corner, value_left_of, value_spelling};
-ghost use Rattle.dirac_coeffs.specs.Decisions.{frame_of, value_part, row_part};
+ghost use Rattle.dirac_coeffs.specs.Decisions.{value_part, row_part};
 ghost use Rattle.dirac_coeffs.specs.Lent.{numbers_in};
 ghost use Rattle.dirac_coeffs.specs.WrittenBand.{IsBandToWrite, IsBlockToWrite, frame_in, values_of_block};
 
 use crate::contexts;
-use crate::layout::{BandLayout, WrittenBand};
+use crate::layout::WrittenBand;
 use crate::numbers::{Numbers, number_at};
 use crate::spans::{Codeblock, Span, codeblock_span};
 use dirac_arith::{COEFFICIENT_DIGITS, Encoder};
-use dirac_common::{Band, LARGEST_TABLE_SIDE, NoMemory};
+use dirac_common::{Band, NoMemory};
 
 /// What stands to the left of a value that is written next, and above that.
 #[derive(Clone, Copy)]
@@ -20,76 +21,73 @@ struct Beside {
     corner: i64,
 }
 
-/// Writes a value among these neighbours.
+/// Writes a value behind its first follow context, which tells the others.
 #[inline(never)]
 fn write_number(
     encoder: &mut Encoder,
     band: Band,
+    first: u8,
     left: i64,
     above: i64,
-    corner: i64,
-    parent: i64,
     value: i64,
 ) -> Result<(), NoMemory>
     requires { unsigned_abs value < 2 ^ 39 - 1 }
-    ensures { OnOk result (encoder.new ≡ narrowed_by encoder.old (value_spelling band left above corner parent value)) }
+    ensures { (parent neighbours : Bool) → first ≡ follow_at (follow_of parent neighbours) 0
+        → OnOk result (encoder.new ≡ narrowed_by encoder.old (signed_spelling (follow_of parent neighbours)
+        bits_context (sign_of (sign_neighbour band left above)) value)) }
 {
-    let follow = contexts::follow_among(left, above, corner, parent);
+    let follow = contexts::follow_from(first);
     let sign = contexts::sign_context(band, left, above);
     encoder.signed(follow, COEFFICIENT_DIGITS, sign, value)
 }
 
-/// The same where the value is mostly 0, which one decision spells.
+/// Writes a value among these neighbours; one decision spells 0, which most values are.
 #[inline(always)]
 fn write_value(
     encoder: &mut Encoder,
     band: Band,
-    left: i64,
+    beside: Beside,
     above: i64,
-    corner: i64,
     parent: i64,
     value: i64,
 ) -> Result<(), NoMemory>
     requires { unsigned_abs value < 2 ^ 39 - 1 }
-    ensures { OnOk result (encoder.new ≡ narrowed_by encoder.old (value_spelling band left above corner parent value)) }
+    ensures { OnOk result (encoder.new ≡ narrowed_by encoder.old
+        (value_spelling band beside.left above beside.corner parent value)) }
 {
+    let first = contexts::first_among(beside.left, above, beside.corner, parent);
     if value == 0 {
-        let first = contexts::first_among(left, above, corner, parent);
         return encoder.decision(first, true);
     }
-    write_number(encoder, band, left, above, corner, parent, value)
+    write_number(encoder, band, first, beside.left, above, value)
 }
 
 /// Writes the value in column `x` of row `y`, and tells what stands beside the next one.
 #[inline(always)]
 fn write_at(
     encoder: &mut Encoder,
-    values: Numbers<'_>,
-    layout: BandLayout,
-    parent: Numbers<'_>,
+    band: WrittenBand<'_>,
     x: usize,
     y: usize,
     beside: Beside,
 ) -> Result<Beside, NoMemory>
-    requires column { x < layout.width }
-    requires width { layout.width ≤ LARGEST_TABLE_SIDE }
-    requires row { y < LARGEST_TABLE_SIDE }
-    requires inside { (y + 1) * layout.width ≤ length (numbers_in values) }
-    requires magnitudes_bounded { AreSmall (numbers_in values) }
-    requires left { beside.left ≡ value_left_of layout.width (numbers_in values) x y }
-    requires corner { beside.corner ≡ value_in_corner layout.width (numbers_in values) x y }
+    requires writable { IsBandToWrite band }
+    requires column { x < band.layout.width }
+    requires row { y < band.layout.height }
+    requires left { beside.left ≡ value_left_of band.layout.width (numbers_in band.values) x y }
+    requires corner { beside.corner ≡ value_in_corner band.layout.width (numbers_in band.values) x y }
     ensures written { OnOk result (encoder.new ≡ narrowed_by encoder.old
-        (value_part (frame_of layout (numbers_in parent.entry)) (numbers_in values.entry) x y)) }
-    ensures left { IfOk result (λ next. next.left ≡ value_left_of layout.width (numbers_in values.entry) (x + 1) y) }
-    ensures corner { IfOk result
-        (λ next. next.corner ≡ value_in_corner layout.width (numbers_in values.entry) (x + 1) y) }
+        (value_part (frame_in band.entry) (numbers_in band.entry.values) x y)) }
+    ensures left { IfOk result (λ next. next.left
+        ≡ value_left_of band.entry.layout.width (numbers_in band.entry.values) (x + 1) y) }
+    ensures corner { IfOk result (λ next. next.corner
+        ≡ value_in_corner band.entry.layout.width (numbers_in band.entry.values) (x + 1) y) }
 {
-    let width = layout.width as usize;
-    let above = contexts::above_value(values, width, x, y);
-    let parent = contexts::parent_value(parent, width, x, y);
-    let value = number_at(values, y * width + x);
-    let Beside { left, corner } = beside;
-    match write_value(encoder, layout.band, left, above, corner, parent, value) {
+    let width = band.layout.width as usize;
+    let above = contexts::above_value(band.values, width, x, y);
+    let parent = contexts::parent_value(band.parent, width, x, y);
+    let value = number_at(band.values, y * width + x);
+    match write_value(encoder, band.layout.band, beside, above, parent, value) {
         Ok(()) => Ok(Beside {
             left: value,
             corner: above,
@@ -103,61 +101,27 @@ fn write_at(
 #[inline(always)]
 fn write_part(
     encoder: &mut Encoder,
-    values: Numbers<'_>,
-    layout: BandLayout,
-    parent: Numbers<'_>,
+    band: WrittenBand<'_>,
     y: usize,
     columns: Span,
 ) -> Result<(), NoMemory>
-    requires columns { columns.start + columns.length ≤ layout.width }
-    requires width { layout.width ≤ LARGEST_TABLE_SIDE }
-    requires row { y < LARGEST_TABLE_SIDE }
-    requires inside { (y + 1) * layout.width ≤ length (numbers_in values) }
-    requires magnitudes_bounded { AreSmall (numbers_in values) }
+    requires writable { IsBandToWrite band }
+    requires columns { columns.start + columns.length ≤ band.layout.width }
+    requires row { y < band.layout.height }
     ensures { OnOk result (encoder.new ≡ narrowed_by encoder.old
-        (row_part (frame_of layout (numbers_in parent.entry)) (numbers_in values.entry) y columns.start
-        columns.length)) }
+        (row_part (frame_in band.entry) (numbers_in band.entry.values) y columns.start columns.length)) }
 {
-    let width = layout.width as usize;
-    let left = contexts::left_value(values, width, columns.start, y);
-    let corner = contexts::corner_value(values, width, columns.start, y);
+    let width = band.layout.width as usize;
+    let left = contexts::left_value(band.values, width, columns.start, y);
+    let corner = contexts::corner_value(band.values, width, columns.start, y);
     let mut beside = Beside { left, corner };
     'values: for i in 0..columns.length {
-        let x = columns.start + i;
-        match write_at(encoder, values, layout, parent, x, y, beside) {
+        match write_at(encoder, band, columns.start + i, y, beside) {
             Ok(next) => beside = next,
             Err(e) => return Err(e),
         }
     }
     Ok(())
-}
-
-/// The same as `write_row` where the parent may be in 32 bits.
-#[inline(always)]
-fn write_below(
-    encoder: &mut Encoder,
-    values: Numbers<'_>,
-    layout: BandLayout,
-    parent: Numbers<'_>,
-    y: usize,
-    columns: Span,
-) -> Result<(), NoMemory>
-    requires columns { columns.start + columns.length ≤ layout.width }
-    requires width { layout.width ≤ LARGEST_TABLE_SIDE }
-    requires row { y < LARGEST_TABLE_SIDE }
-    requires inside { (y + 1) * layout.width ≤ length (numbers_in values) }
-    requires magnitudes_bounded { AreSmall (numbers_in values) }
-    ensures { OnOk result (encoder.new ≡ narrowed_by encoder.old
-        (row_part (frame_of layout (numbers_in parent.entry)) (numbers_in values.entry) y columns.start
-        columns.length)) }
-{
-    match parent {
-        Numbers::Narrow(list) => {
-            write_part(encoder, values, layout, Numbers::Narrow(list), y, columns)
-        }
-        Numbers::Zeros(_count) => write_part(encoder, values, layout, parent, y, columns),
-        Numbers::Wide(_list) => write_part(encoder, values, layout, parent, y, columns),
-    }
 }
 
 /// Writes the values of these columns of row `y`.
@@ -175,16 +139,30 @@ fn write_row(
 {
     match band.values {
         Numbers::Narrow(list) => {
-            write_below(
-                encoder,
-                Numbers::Narrow(list),
-                band.layout,
-                band.parent,
-                y,
-                columns,
-            )
+            let values = Numbers::Narrow(list);
+            match band.parent {
+                Numbers::Narrow(above) => {
+                    let parent = Numbers::Narrow(above);
+                    write_part(
+                        encoder,
+                        WrittenBand {
+                            values,
+                            parent,
+                            ..band
+                        },
+                        y,
+                        columns,
+                    )
+                }
+                Numbers::Zeros(_count) => {
+                    write_part(encoder, WrittenBand { values, ..band }, y, columns)
+                }
+                Numbers::Wide(_above) => {
+                    write_part(encoder, WrittenBand { values, ..band }, y, columns)
+                }
+            }
         }
-        _ => write_part(encoder, band.values, band.layout, band.parent, y, columns),
+        _ => write_part(encoder, band, y, columns),
     }
 }
 

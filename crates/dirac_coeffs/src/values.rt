@@ -1,16 +1,15 @@
-ghost use Rattle.std.specs.Prelude.{◌≡◌, ⊤, ◌+◌, ◌*◌, ◌^◌, ◌<◌, ◌≤◌, Bool, true, false, length, slice_set, IfOk};
-ghost use Rattle.std.specs.Prelude.{◌≢◌, IfErr, OnErr};
+ghost use Rattle.std.specs.Prelude.{◌≡◌, ⊤, ◌+◌, ◌*◌, ◌^◌, ◌<◌, ◌≤◌, Bool, false, length, IfOk};
+ghost use Rattle.std.specs.Prelude.{IfErr, OnErr};
 ghost use Rattle.std.specs.Prelude.{Ok, Err};
 ghost use Rattle.dirac_arith.specs.Coded.{read_coded};
 ghost use Rattle.dirac_arith.specs.Deciding.{GivesReading, decision_read, signed_read};
 ghost use Rattle.dirac_arith.specs.Decoding.{reading_at};
-ghost use Rattle.dirac_arith.specs.Front.{front};
 ghost use Rattle.dirac_arith.specs.Reading.{Reading};
 ghost use Rattle.dirac_arith.specs.Registers.{Runs, doublings_of};
 ghost use Rattle.dirac_arith.specs.Spelling.{follow_at};
 ghost use Rattle.dirac_coeffs.specs.Answers.{Goes, RefusedBy};
 ghost use Rattle.dirac_coeffs.specs.BandRead.{value_step, row_step};
-ghost use Rattle.dirac_coeffs.specs.Contexts.{value_above, follow_among, follow_of, bits_context, value_in_corner};
+ghost use Rattle.dirac_coeffs.specs.Contexts.{follow_among, follow_of, bits_context, value_in_corner};
 ghost use Rattle.dirac_coeffs.specs.Contexts.{value_left_of};
 ghost use Rattle.dirac_coeffs.specs.Contexts.{sign_of};
 ghost use Rattle.dirac_coeffs.specs.Contexts.{sign_neighbour};
@@ -107,40 +106,6 @@ fn read_value(
     }
 }
 
-/// Writes a value that was read in 32 bits; false where it doesn't fit.
-#[inline(always)]
-fn put_narrow(values: &mut [i32], place: usize, read: ValueRead) -> bool
-    requires { place < length values.old }
-    ensures written { result ≡ true → values.new ≡ slice_set values.old place read.value }
-    ensures len { length values.new ≡ length values.old }
-{
-    let half = lower_half(read.value);
-    values[place] = half;
-    i64::from(half) == read.value
-}
-
-/// Row `y` before its value in column `x` is read.
-#[inline(always)]
-fn row_place(decoder: &Decoder<'_>, values: &[i32], width: usize, x: usize, y: usize) -> RowPlace
-    requires column { x ≤ width }
-    requires width { width ≤ LARGEST_TABLE_SIDE }
-    requires row { y < LARGEST_TABLE_SIDE }
-    requires inside { (y + 1) * width ≤ length values.now }
-    requires not_refused { front decoder.now.block 16 ≢ 0xFFFF }
-    ensures stands { reading_at decoder.now result.left.registers ≡ decoder.now }
-    ensures runs { Runs decoder.now.block result.left.registers }
-    ensures left { result.left.value ≡ value_left_of width values.now x y }
-    ensures corner { result.corner ≡ value_in_corner width values.now x y }
-{
-    let value = contexts::left_value(Numbers::Narrow(values), width, x, y);
-    let corner = contexts::corner_value(Numbers::Narrow(values), width, x, y);
-    let registers = decoder.registers();
-    RowPlace {
-        left: ValueRead { value, registers },
-        corner,
-    }
-}
-
 /// Reads the value in this spot behind those before it in its row.
 #[inline(always)]
 fn read_at(
@@ -176,7 +141,10 @@ fn read_at(
     let parent = contexts::parent_value(Numbers::Narrow(parent), width, at.column, at.row);
     match read_value(decoder, place, layout.band, above, parent) {
         Ok(read) => {
-            if !put_narrow(values, at.row * width + at.column, read) {
+            let half = lower_half(read.value);
+            values[at.row * width + at.column] = half;
+            let kept = i64::from(half);
+            if kept != read.value {
                 decoder.resume(read.registers);
                 return Err(Unread::TooWide);
             }
@@ -217,7 +185,15 @@ pub fn read_narrow_row(
     if decoder.is_refused() {
         return Err(Unread::Refused(Cause::CodeWord));
     }
-    let mut place = row_place(decoder, values, layout.width as usize, columns.start, y);
+    let width = layout.width as usize;
+    let lent = Numbers::Narrow(values);
+    let value = contexts::left_value(lent, width, columns.start, y);
+    let corner = contexts::corner_value(lent, width, columns.start, y);
+    let registers = decoder.registers();
+    let mut place = RowPlace {
+        left: ValueRead { value, registers },
+        corner,
+    };
     'values: for i in 0..columns.length {
         let at = Spot {
             column: columns.start + i,

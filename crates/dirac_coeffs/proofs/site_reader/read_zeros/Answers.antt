@@ -1,4 +1,5 @@
-use Rattle.std.proofs.Common.{Result, Ok, ap, subst, sym}
+use Rattle.std.proofs.Common.{Result, Ok, ap, arith, subst, sym}
+use Rattle.std.proofs.lemmas.Nat.{mul-le}
 use Rattle.dirac_common.specs.declared.faults.Refusal.{Refusal}
 use Rattle.dirac_coeffs.specs.declared.layout.CodedBand.{CodedBand}
 use Rattle.dirac_coeffs.specs.Grammar.{IsCodedBand}
@@ -19,8 +20,8 @@ returns-in-Err-clause-value c = tt
 pub returns-in-Err-clause-lawful : goal.returns-in-Err-clause-lawful
 returns-in-Err-clause-lawful c = tt
 
-pub equal_indices-requires : goal.equal_indices-requires
-equal_indices-requires c = c.requires
+pub overflow_mul-layout : goal.overflow_mul-layout
+overflow_mul-layout c = omega (arith, mul-le c.args.layout.across c.args.layout.down 8192 8192 c.requires.across.1 c.requires.down.1)
 
 pub zeros-requires-clause-across : goal.zeros-requires-clause-across
 zeros-requires-clause-across c = c.requires.width

@@ -1,5 +1,7 @@
 use Rattle.std.proofs.Common.{◌≡◌, ◌+◌, ◌∙◌, ℕ, ℤ, List, Result, Ok, Err, arith, ap, refl, subst, sym}
 use Rattle.std.specs.Prelude.{⊤}
+use Rattle.std.specs.Int.{w64}
+use Rattle.std.proofs.lemmas.Int.{to_z-of_z}
 use Rattle.dirac_common.specs.declared.faults.Cause.{Cause}
 use Rattle.dirac_common.specs.declared.faults.Cause.TheVariants as cause
 use Rattle.dirac_arith.specs.Coded.{Coded, read_coded}
@@ -91,25 +93,37 @@ resume-requires c = record { runs = c.values.invariant.runs }
 pub returns-clause-len : goal.returns-clause-len
 returns-clause-len c = c.values.invariant.len
 
-pub row_place-place-requires-clause-column : goal.row_place-place-requires-clause-column
-row_place-place-requires-clause-column c = omega (arith, c.requires.columns)
+pub left_value-value-requires-clause-column : goal.left_value-value-requires-clause-column
+left_value-value-requires-clause-column c = omega (arith, c.requires.columns)
 
-pub row_place-place-requires-clause-width : goal.row_place-place-requires-clause-width
-row_place-place-requires-clause-width c = c.requires.width
+pub left_value-value-requires-clause-width : goal.left_value-value-requires-clause-width
+left_value-value-requires-clause-width c = c.requires.width
 
-pub row_place-place-requires-clause-row : goal.row_place-place-requires-clause-row
-row_place-place-requires-clause-row c = c.requires.row
+pub left_value-value-requires-clause-row : goal.left_value-value-requires-clause-row
+left_value-value-requires-clause-row c = c.requires.row
 
-pub row_place-place-requires-clause-inside : goal.row_place-place-requires-clause-inside
-row_place-place-requires-clause-inside c = c.requires.inside
+pub left_value-value-requires-clause-inside : goal.left_value-value-requires-clause-inside
+left_value-value-requires-clause-inside c = c.requires.inside
 
-pub row_place-place-requires-clause-not_refused : goal.row_place-place-requires-clause-not_refused
-row_place-place-requires-clause-not_refused c = c.is_refused.ensures.not_refused c.if-is_refused.false
+pub corner_value-corner-requires-clause-column : goal.corner_value-corner-requires-clause-column
+corner_value-corner-requires-clause-column c = omega (arith, c.requires.columns)
+
+pub corner_value-corner-requires-clause-width : goal.corner_value-corner-requires-clause-width
+corner_value-corner-requires-clause-width c = c.requires.width
+
+pub corner_value-corner-requires-clause-row : goal.corner_value-corner-requires-clause-row
+corner_value-corner-requires-clause-row c = c.requires.row
+
+pub corner_value-corner-requires-clause-inside : goal.corner_value-corner-requires-clause-inside
+corner_value-corner-requires-clause-inside c = c.requires.inside
+
+pub registers-registers-requires : goal.registers-registers-requires
+registers-registers-requires c = record { not_refused = c.is_refused.ensures.not_refused c.if-is_refused.false }
 
 pub values-init : goal.values-init
 values-init c =
     let same : c.args.columns.start ≡ c.args.columns.start + 0 = omega arith in
-    let here = c.row_place-place.ensures in
+    let here = c.registers-registers.ensures in
     record {
       value =
           repeated_none (λ i. value_step (frame_of c.args.layout c.args.parent.now) (c.args.columns.start + i) c.args.y) c.args.values.now c.args.decoder.now
@@ -117,8 +131,8 @@ values-init c =
       runs = here.runs;
       len = refl;
       few_doublings = omega (arith, ap (λ (r : Reading). r.at.doublings) here.stands);
-      left = here.left ∙ ap (λ x. value_left_of c.args.layout.width c.args.values.now x c.args.y) same;
-      corner = here.corner ∙ ap (λ x. value_in_corner c.args.layout.width c.args.values.now x c.args.y) same;
+      left = to_z-of_z w64 _ (record { sfits = c.left_value-value.type_inv }) ∙ c.left_value-value.ensures ∙ ap (λ x. value_left_of c.args.layout.width c.args.values.now x c.args.y) same;
+      corner = to_z-of_z w64 _ (record { sfits = c.corner_value-corner.type_inv }) ∙ c.corner_value-corner.ensures ∙ ap (λ x. value_in_corner c.args.layout.width c.args.values.now x c.args.y) same;
     }
 
 pub values-preserved : goal.values-preserved
@@ -140,5 +154,5 @@ read_at-requires-clause-left c = c.values.invariant.left
 pub read_at-requires-clause-corner : goal.read_at-requires-clause-corner
 read_at-requires-clause-corner c = c.values.invariant.corner
 
-pub overflow_cast-layout : goal.overflow_cast-layout
-overflow_cast-layout c = omega (arith, c.requires.width)
+pub overflow_cast-width : goal.overflow_cast-width
+overflow_cast-width c = omega (arith, c.requires.width)

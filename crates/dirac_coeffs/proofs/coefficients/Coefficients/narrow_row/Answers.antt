@@ -8,7 +8,7 @@ use Rattle.dirac_coeffs.proofs.coefficients.Coefficients.narrow_row.Goals as goa
 
 pub returns-in-Wide-clause-zeros : goal.returns-in-Wide-clause-zeros
 returns-in-Wide-clause-zeros c = λ e.
-    let wide : 2 ^ 31 ≤ c.self.inside.largest = rw c.in-Wide.is at c.self.invariant.form in
+    let wide : 2 ^ 31 ≤ c.self.inside.largest = (rw c.in-Wide.is at c.self.invariant.form).0 in
     let fits : All (λ v. unsigned_abs v ≤ 2 ^ 31 - 1) c.args.self.now.values = λ k d l. omega (arith, c.requires.fits k d l) in
     let small : c.self.inside.largest ≤ 2 ^ 31 - 1 = c.self.invariant.most.least (2 ^ 31 - 1) (subst (λ (t : Table). All (λ v. unsigned_abs v ≤ 2 ^ 31 - 1) t.values) (sym c.self.view_is) fits) in
     absurd (omega (arith, wide, small))
@@ -25,16 +25,20 @@ returns-in-Narrow-clause-no_list c = λ all.
 
 pub overflow_mul-start : goal.overflow_mul-start
 overflow_mul-start c =
-    let is = subst (λ (h : Held). IsHeld h c.self.inside.largest) c.in-Narrow.is c.self.invariant in
-    let same = sym (ap held_table c.in-Narrow.is) ∙ c.self.view_is in
-    let place = held_row c.in-Narrow.rows c.args.self.now c.args.y c.self.inside.largest same is c.requires.inside in
+    let w = c.self.inside.width in
+    let h = c.self.inside.height in
+    let is = subst (λ (v : Held). IsHeld w h v c.self.inside.largest) c.in-Narrow.is c.self.invariant in
+    let same = ap (λ (v : Held). held_table w h v) (sym c.in-Narrow.is) ∙ c.self.view_is in
+    let place = held_row w h c.in-Narrow.list.items c.args.self.now c.args.y same is.across.1 is.down.1 is.whole c.requires.inside in
     omega (arith, place)
 
 pub overflow_add-result : goal.overflow_add-result
 overflow_add-result c =
-    let is = subst (λ (h : Held). IsHeld h c.self.inside.largest) c.in-Narrow.is c.self.invariant in
-    let same = sym (ap held_table c.in-Narrow.is) ∙ c.self.view_is in
-    let place = held_row c.in-Narrow.rows c.args.self.now c.args.y c.self.inside.largest same is c.requires.inside in
+    let w = c.self.inside.width in
+    let h = c.self.inside.height in
+    let is = subst (λ (v : Held). IsHeld w h v c.self.inside.largest) c.in-Narrow.is c.self.invariant in
+    let same = ap (λ (v : Held). held_table w h v) (sym c.in-Narrow.is) ∙ c.self.view_is in
+    let place = held_row w h c.in-Narrow.list.items c.args.self.now c.args.y same is.across.1 is.down.1 is.whole c.requires.inside in
     omega (arith, place)
 
 pub returns-in-Zeros-clause-value : goal.returns-in-Zeros-clause-value

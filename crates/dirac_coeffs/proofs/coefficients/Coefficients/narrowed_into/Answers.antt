@@ -10,17 +10,17 @@ same_table : (t : Table) (width height : ℕ) (values : List ℤ) → width ≡ 
 same_table t width height values across down same = rw (across, down, same) refl
 
 pub of_rows-requires-clause-across : goal.of_rows-requires-clause-across
-of_rows-requires-clause-across c = (c.width.ensures.at_least_1, omega (arith, c.width.ensures.value, c.requires.across))
+of_rows-requires-clause-across c = (c.width-width.ensures.at_least_1, omega (arith, c.width-width.ensures.value, c.requires.across))
 
 pub of_rows-requires-clause-down : goal.of_rows-requires-clause-down
-of_rows-requires-clause-down c = (c.height.ensures.at_least_1, omega (arith, c.height.ensures.value, c.requires.down))
+of_rows-requires-clause-down c = (c.height-height.ensures.at_least_1, omega (arith, c.height-height.ensures.value, c.requires.down))
 
 pub of_rows-requires-clause-len : goal.of_rows-requires-clause-len
 of_rows-requires-clause-len c =
     let new = c.copy_narrowed-narrowed.new.narrow in
     let count : length new ≡ c.args.values.len = omega (arith, c.copy_narrowed-narrowed.auto.narrow, c.as_mut_slice.ensures.len, c.args.values.ok.0) in
     let all = filled c.args.values.len new c.args.values.items count ∙ c.copy_narrowed-narrowed.ensures.written c.if-narrowed.true ∙ c.values.ensures.value in
-    ap (λ (l : List ℤ). length l) all ∙ c.width.ensures.whole ∙ sym (ap₂ (λ (a b : ℕ). a * b) c.width.ensures.value c.height.ensures.value)
+    ap (λ (l : List ℤ). length l) all ∙ c.width-width.ensures.whole ∙ sym (ap₂ (λ (a b : ℕ). a * b) c.width-width.ensures.value c.height-height.ensures.value)
 
 pub of_rows-requires-clause-largest : goal.of_rows-requires-clause-largest
 of_rows-requires-clause-largest c =
@@ -33,13 +33,12 @@ pub invariant_of-result : goal.invariant_of-result
 invariant_of-result c =
     let t = c.args.table in
     let largest = c.largest_of-largest.result in
-    let sides : (length t.values ≡ t.width * t.height) × (1 ≤ t.width) × (1 ≤ t.height) = subst (λ (u : Table). (length u.values ≡ u.width * u.height) × (1 ≤ u.width) × (1 ≤ u.height)) c.table.view_is c.table.invariant in
     record {
-      across = (sides.1, c.requires.across);
-      down = (sides.2, c.requires.down);
-      whole = sides.0;
+      across = (c.width-width.ensures.at_least_1, omega (arith, c.width-width.ensures.value, c.requires.across));
+      down = (c.height-height.ensures.at_least_1, omega (arith, c.height-height.ensures.value, c.requires.down));
+      whole = c.width-width.ensures.whole ∙ sym (ap₂ (λ (a b : ℕ). a * b) c.width-width.ensures.value c.height-height.ensures.value);
       most = subst (λ (l : List ℤ). IsLargest largest l) c.values-2.ensures.value c.largest_of-largest.ensures;
-      form = c.copy_narrowed-narrowed.ensures.others c.if-narrowed.false largest (subst (λ (l : List ℤ). All (λ v. unsigned_abs v ≤ largest) l) (c.values-2.ensures.value ∙ sym c.values.ensures.value) c.largest_of-largest.ensures.bound);
+      form = (c.copy_narrowed-narrowed.ensures.others c.if-narrowed.false largest (subst (λ (l : List ℤ). All (λ v. unsigned_abs v ≤ largest) l) (c.values-2.ensures.value ∙ sym c.values.ensures.value) c.largest_of-largest.ensures.bound), sym c.width-width.ensures.value, sym c.height-height.ensures.value);
     }
 
 pub returns-then-narrowed : goal.returns-then-narrowed
@@ -47,7 +46,7 @@ returns-then-narrowed c =
     let new = c.copy_narrowed-narrowed.new.narrow in
     let count : length new ≡ c.args.values.len = omega (arith, c.copy_narrowed-narrowed.auto.narrow, c.as_mut_slice.ensures.len, c.args.values.ok.0) in
     let all = filled c.args.values.len new c.args.values.items count ∙ c.copy_narrowed-narrowed.ensures.written c.if-narrowed.true ∙ c.values.ensures.value in
-    c.of_rows.ensures ∙ same_table c.args.table c.width.result c.height.result _ c.width.ensures.value c.height.ensures.value all
+    c.of_rows.ensures ∙ same_table c.args.table c.width-width.result c.height-height.result _ c.width-width.ensures.value c.height-height.ensures.value all
 
 pub returns : goal.returns
-returns c = refl
+returns c = same_table c.args.table c.width-width.result c.height-height.result c.args.table.values c.width-width.ensures.value c.height-height.ensures.value refl

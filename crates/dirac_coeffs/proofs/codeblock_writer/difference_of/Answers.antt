@@ -1,7 +1,7 @@
 use Rattle.std.proofs.Common.{ℤ, ◌^◌, ◌-◌, ◌<◌, subst, sym, unsigned_abs, arith}
 use Rattle.std.proofs.lemmas.Int.{ints}
 use Rattle.dirac_coeffs.proofs.Writing.{difference_small}
-use Rattle.dirac_coeffs.proofs.offset_writer.difference_of.Goals as goal
+use Rattle.dirac_coeffs.proofs.codeblock_writer.difference_of.Goals as goal
 
 pub returns-clause-value : goal.returns-clause-value
 returns-clause-value c = omega (arith, ints)
