@@ -15,8 +15,8 @@ use std::alloc::Global;
 use std::marker::PhantomData;
 
 /// A source over another one whose units are read ahead, and looked at, before their bytes are asked for. The end of
-/// the other source and a failure of it are told once all bytes that were read before are given; after a failure
-/// nothing is read ahead any more. Where memory is refused, nothing is read ahead from then on.
+/// the other source and a failure of it are told once all bytes that were read before are given. Nothing more is read
+/// ahead behind a failure, behind a parse info that is refused, and once memory was refused.
 #[derive(Drop)]
 pub struct Ahead<'a, S: Source, L: Look, B: Begun> {
     source: &'a mut S,
@@ -29,6 +29,7 @@ pub struct Ahead<'a, S: Source, L: Look, B: Begun> {
     told: u64,
     begun: PhantomData<B>,
     ghost same_reference: { source.ghost_name ≡ B.name },
+    ghost at_most_the_plan: { length held ≤ plan.most },
     ghost fits: { length held + S.left source.now < 2 ^ 63 },
     ghost faults_never_fall: { B.faults ≤ S.faults source.now },
     ghost at_end: { (bytes : List ℕ) → behind ≡ stands.End → S.held source.now ≡ Some bytes → bytes ≡ [] },
@@ -45,6 +46,7 @@ impl<'a, S: Source, L: Look, B: Begun> Ahead<'a, S, L, B> {
         requires faults { S.faults lent.source.now ≡ B.faults }
         ensures held { prepend_known result.held (S.held result.source.now) ≡ S.held lent.entry.source.now }
         ensures none_told { result.told ≡ 0 }
+        ensures same_plan { result.plan ≡ plan }
     {
         let Lent { source } = lent;
         Ahead {
@@ -73,14 +75,15 @@ impl<'a, S: Source, L: Look, B: Begun> Ahead<'a, S, L, B> {
 
     /// Where all bytes that were read before are given and more may be read ahead, reads units and looks at them.
     fn read_ahead(&mut self)
-        ensures kept { Keeps (prepend_known self.old.held (S.held self.old.source.now))
+        ensures no_byte_lost { Keeps (prepend_known self.old.held (S.held self.old.source.now))
             (prepend_known self.new.held (S.held self.new.source.now)) }
-        ensures left { length self.new.held + S.left self.new.source.now
+        ensures left_never_rises { length self.new.held + S.left self.new.source.now
             ≤ length self.old.held + S.left self.old.source.now }
         // Where nothing stands in memory then, nothing was taken.
-        ensures nothing { self.new.held ≡ [] → (self.new.behind ≡ Behind.Failure → ⊥)
+        ensures none_taken { self.new.held ≡ [] → (self.new.behind ≡ Behind.Failure → ⊥)
             → (self.old.held ≡ []) × (S.left self.new.source.now ≡ S.left self.old.source.now) }
         ensures told { self.new.told ≡ self.old.told }
+        ensures same_plan { self.new.plan ≡ self.old.plan }
     {
         if !self.held.is_empty() || self.rest > 0 || !matches!(self.behind, Behind::More) {
             return;
@@ -97,7 +100,7 @@ impl<'a, S: Source, L: Look, B: Begun> Ahead<'a, S, L, B> {
     /// Reads straight from the other source, where nothing is held; of a unit that was read ahead in part, no byte
     /// more than its rest.
     fn read_directly(&mut self, buf: &mut [u8]) -> Got
-        requires room { 0 < length buf.old }
+        requires buffer_not_empty { 0 < length buf.old }
         requires none_held { self.old.held ≡ [] }
         requires not_at_end { (self.old.behind ≡ Behind.End → ⊥) × (self.old.behind ≡ Behind.Failure → ⊥) }
         ensures bytes { IfBytes result (λ n. GivesFront n buf.new (S.held self.old.source.now)
@@ -105,11 +108,12 @@ impl<'a, S: Source, L: Look, B: Begun> Ahead<'a, S, L, B> {
         ensures end { result ≡ Got.End → MeetsEnd (S.held self.old.source.now) (S.held self.new.source.now)
             (S.faults self.old.source.now) (S.faults self.new.source.now) (S.left self.old.source.now)
             (S.left self.new.source.now) }
-        ensures kept { result ≡ Got.Failed → Keeps (S.held self.old.source.now) (S.held self.new.source.now) }
-        ensures left { S.left self.new.source.now ≤ S.left self.old.source.now }
+        ensures no_byte_lost { result ≡ Got.Failed → Keeps (S.held self.old.source.now) (S.held self.new.source.now) }
+        ensures left_never_rises { S.left self.new.source.now ≤ S.left self.old.source.now }
         ensures told { result ≡ Got.Failed → self.new.told ≡ one_more self.old.told }
         ensures not_told { (result ≡ Got.Failed → ⊥) → self.new.told ≡ self.old.told }
         ensures none_held { self.new.held ≡ [] }
+        ensures same_plan { self.new.plan ≡ self.old.plan }
     {
         let most = if self.rest > 0 { self.rest } else { u64::MAX };
         let room = most.min(buf.len() as u64) as usize;
@@ -137,7 +141,25 @@ impl<S: Source, L: Look, B: Begun> Source for Ahead<'_, S, L, B> {
 
     ghost faults_fit = { λ a. clipped_fits a.told };
 
-    fn read(&mut self, buf: &mut [u8]) -> Got {
+    fn read(&mut self, buf: &mut [u8]) -> Got
+        requires { 0 < length buf.old }
+        ensures bytes { IfBytes result (λ n. GivesFront n buf.new
+            (prepend_known self.old.held (S.held self.old.source.now))
+            (prepend_known self.new.held (S.held self.new.source.now))
+            (left_of self.old.held (S.left self.old.source.now))
+            (left_of self.new.held (S.left self.new.source.now))) }
+        ensures end { result ≡ Got.End → MeetsEnd (prepend_known self.old.held (S.held self.old.source.now))
+            (prepend_known self.new.held (S.held self.new.source.now)) (held_count self.old.told)
+            (held_count self.new.told) (left_of self.old.held (S.left self.old.source.now))
+            (left_of self.new.held (S.left self.new.source.now)) }
+        ensures failed { result ≡ Got.Failed → Rose (held_count self.old.told) (held_count self.new.told) }
+        ensures kept { result ≡ Got.Failed → Keeps (prepend_known self.old.held (S.held self.old.source.now))
+            (prepend_known self.new.held (S.held self.new.source.now)) }
+        ensures count { held_count self.old.told ≤ held_count self.new.told }
+        ensures left { left_of self.new.held (S.left self.new.source.now)
+            ≤ left_of self.old.held (S.left self.old.source.now) }
+        ensures same_plan { self.new.plan ≡ self.old.plan }
+    {
         self.read_ahead();
         if !self.held.is_empty() {
             return Got::Bytes(self.held.give(buf));

@@ -38,7 +38,7 @@ impl HeldBytes {
     /// Whether all were given.
     pub(crate) fn is_empty(&self) -> bool
         ensures empty { result ≡ true → self.now ≡ [] }
-        ensures some { result ≡ false → 0 < length self.now }
+        ensures not_empty { result ≡ false → 0 < length self.now }
     {
         self.from == self.bytes.len()
     }
@@ -51,12 +51,12 @@ impl HeldBytes {
 
     /// Gives the front of them, as far as the buffer has room.
     pub(crate) fn give(&mut self, buf: &mut [u8]) -> usize
-        requires room { 0 < length buf.old }
-        requires held { 0 < length self.old }
-        ensures some { 1 ≤ result }
-        ensures room { result ≤ length buf.new }
+        requires buffer_not_empty { 0 < length buf.old }
+        requires not_empty { 0 < length self.old }
+        ensures at_least_1 { 1 ≤ result }
+        ensures at_most_the_buffer { result ≤ length buf.new }
         ensures front { self.old ≡ take result buf.new ++ self.new }
-        ensures count { length self.old ≡ result + length self.new }
+        ensures so_many_fewer { length self.old ≡ result + length self.new }
     {
         let rest = &self.bytes[self.from..];
         let n = buf.len().min(rest.len());
@@ -68,13 +68,15 @@ impl HeldBytes {
     /// Where none are held, reads units.
     pub(crate) fn refill<S: Source>(&mut self, source: &mut S, plan: Plan) -> Found
         requires { self.old ≡ [] }
-        ensures kept { Keeps (S.held source.old) (prepend_known self.new (S.held source.new)) }
-        ensures whole { result.whole ≤ length self.new }
-        ensures left { length self.new + S.left source.new ≤ S.left source.old }
-        ensures nothing { self.new ≡ [] → (result.behind ≡ Behind.Failure → ⊥) → S.left source.new ≡ S.left source.old }
+        ensures no_byte_lost { Keeps (S.held source.old) (prepend_known self.new (S.held source.new)) }
+        ensures whole_units_held { result.whole ≤ length self.new }
+        ensures at_most_the_plan { length self.new ≤ plan.most }
+        ensures left_never_rises { length self.new + S.left source.new ≤ S.left source.old }
+        ensures none_taken { self.new ≡ [] → (result.behind ≡ Behind.Failure → ⊥)
+            → S.left source.new ≡ S.left source.old }
         ensures end { result.behind ≡ Behind.End → IsAtEnd (S.held source.new) }
         ensures failed { result.behind ≡ Behind.Failure → Rose (S.faults source.old) (S.faults source.new) }
-        ensures count { S.faults source.old ≤ S.faults source.new }
+        ensures faults_never_fall { S.faults source.old ≤ S.faults source.new }
     {
         self.from = 0;
         self.bytes.clear();

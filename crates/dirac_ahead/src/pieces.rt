@@ -21,17 +21,20 @@ pub(crate) enum Grown {
 /// Reads behind these bytes at most that many; `None` where memory is refused.
 fn read_piece<S: Source>(source: &mut S, bytes: &mut Vec<u8>, most: usize) -> Option<Got>
     requires { (0 < most) × (most ≤ PIECE_LENGTH) }
-    ensures kept { Keeps (prepend_known bytes.old.items (S.held source.old))
+    ensures no_byte_lost { Keeps (prepend_known bytes.old.items (S.held source.old))
         (prepend_known bytes.new.items (S.held source.new)) }
-    ensures some { (n : ℕ) → result ≡ Some (Got.Bytes n)
-        → (1 ≤ n) × (n ≤ most) × (length bytes.new.items ≡ length bytes.old.items + n) }
-    ensures longer { length bytes.old.items ≤ length bytes.new.items }
-    ensures left { length bytes.new.items + S.left source.new ≤ length bytes.old.items + S.left source.old }
-    ensures nothing { length bytes.new.items ≡ length bytes.old.items → (result ≡ Some Got.Failed → ⊥)
+    ensures at_least_1 { (n : ℕ) → result ≡ Some (Got.Bytes n) → 1 ≤ n }
+    ensures so_many_more { (n : ℕ) → result ≡ Some (Got.Bytes n)
+        → length bytes.new.items ≡ length bytes.old.items + n }
+    ensures at_most_asked { length bytes.new.items ≤ length bytes.old.items + most }
+    ensures never_shorter { length bytes.old.items ≤ length bytes.new.items }
+    ensures left_never_rises { length bytes.new.items + S.left source.new
+        ≤ length bytes.old.items + S.left source.old }
+    ensures none_taken { length bytes.new.items ≡ length bytes.old.items → (result ≡ Some Got.Failed → ⊥)
         → S.left source.new ≡ S.left source.old }
     ensures end { result ≡ Some Got.End → IsAtEnd (S.held source.new) }
     ensures failed { result ≡ Some Got.Failed → Rose (S.faults source.old) (S.faults source.new) }
-    ensures count { S.faults source.old ≤ S.faults source.new }
+    ensures faults_never_fall { S.faults source.old ≤ S.faults source.new }
 {
     let length = bytes.len();
     if bytes.resize(length + most, 0).is_err() {
@@ -47,16 +50,18 @@ fn read_piece<S: Source>(source: &mut S, bytes: &mut Vec<u8>, most: usize) -> Op
 
 /// Reads just that many bytes behind these, in pieces, unless something stops it before.
 pub(crate) fn grow<S: Source>(source: &mut S, bytes: &mut Vec<u8>, count: u64) -> Grown
-    ensures kept { Keeps (prepend_known bytes.old.items (S.held source.old))
+    ensures no_byte_lost { Keeps (prepend_known bytes.old.items (S.held source.old))
         (prepend_known bytes.new.items (S.held source.new)) }
-    ensures whole { result ≡ Grown.Whole → length bytes.new.items ≡ length bytes.old.items + count }
-    ensures longer { length bytes.old.items ≤ length bytes.new.items }
-    ensures left { length bytes.new.items + S.left source.new ≤ length bytes.old.items + S.left source.old }
-    ensures nothing { length bytes.new.items ≡ length bytes.old.items → (result ≡ Grown.Failed → ⊥)
+    ensures as_many_as_asked { result ≡ Grown.Whole → length bytes.new.items ≡ length bytes.old.items + count }
+    ensures at_most_asked { length bytes.new.items ≤ length bytes.old.items + count }
+    ensures never_shorter { length bytes.old.items ≤ length bytes.new.items }
+    ensures left_never_rises { length bytes.new.items + S.left source.new
+        ≤ length bytes.old.items + S.left source.old }
+    ensures none_taken { length bytes.new.items ≡ length bytes.old.items → (result ≡ Grown.Failed → ⊥)
         → S.left source.new ≡ S.left source.old }
     ensures end { result ≡ Grown.Ended → IsAtEnd (S.held source.new) }
     ensures failed { result ≡ Grown.Failed → Rose (S.faults source.old) (S.faults source.new) }
-    ensures count { S.faults source.old ≤ S.faults source.new }
+    ensures faults_never_fall { S.faults source.old ≤ S.faults source.new }
 {
     let mut rest = count;
     'pieces: while rest > 0 {

@@ -24,7 +24,7 @@ pub(crate) enum Behind {
     End,
     /// A read that failed.
     Failure,
-    /// Nothing that is read ahead.
+    /// What comes is read when it is asked for.
     Direct,
 }
 
@@ -64,17 +64,20 @@ fn stopped_at(grown: Grown) -> Behind
 
 /// Reads the next unit behind these bytes, as far as they are at most that many then.
 fn read_unit<S: Source>(source: &mut S, bytes: &mut Vec<u8>, most: usize) -> Next
-    ensures kept { Keeps (prepend_known bytes.old.items (S.held source.old))
+    requires parse_info_fits { length bytes.old.items + PARSE_INFO_LENGTH ≤ most }
+    ensures no_byte_lost { Keeps (prepend_known bytes.old.items (S.held source.old))
         (prepend_known bytes.new.items (S.held source.new)) }
-    ensures longer { length bytes.old.items ≤ length bytes.new.items }
+    ensures at_most { length bytes.new.items ≤ most }
+    ensures never_shorter { length bytes.old.items ≤ length bytes.new.items }
     ensures picture { result ≡ Next.Picture → length bytes.old.items < length bytes.new.items }
     ensures other { result ≡ Next.Other → length bytes.old.items < length bytes.new.items }
-    ensures left { length bytes.new.items + S.left source.new ≤ length bytes.old.items + S.left source.old }
-    ensures nothing { length bytes.new.items ≡ length bytes.old.items → (result ≡ Next.None Behind.Failure → ⊥)
+    ensures left_never_rises { length bytes.new.items + S.left source.new
+        ≤ length bytes.old.items + S.left source.old }
+    ensures none_taken { length bytes.new.items ≡ length bytes.old.items → (result ≡ Next.None Behind.Failure → ⊥)
         → S.left source.new ≡ S.left source.old }
     ensures end { result ≡ Next.None Behind.End → IsAtEnd (S.held source.new) }
     ensures failed { result ≡ Next.None Behind.Failure → Rose (S.faults source.old) (S.faults source.new) }
-    ensures count { S.faults source.old ≤ S.faults source.new }
+    ensures faults_never_fall { S.faults source.old ≤ S.faults source.new }
 {
     let start = bytes.len();
     let header = grow(source, bytes, PARSE_INFO_LENGTH as u64);
@@ -85,7 +88,7 @@ fn read_unit<S: Source>(source: &mut S, bytes: &mut Vec<u8>, most: usize) -> Nex
         return Next::None(Behind::Direct);
     };
     let length = info.span() - PARSE_INFO_LENGTH as u64;
-    let part = length.min(most.saturating_sub(bytes.len()) as u64);
+    let part = length.min((most - bytes.len()) as u64);
     let payload = grow(source, bytes, part);
     let Grown::Whole = payload else {
         return Next::None(stopped_at(payload));
@@ -102,19 +105,22 @@ fn read_unit<S: Source>(source: &mut S, bytes: &mut Vec<u8>, most: usize) -> Nex
 
 /// Reads units behind these bytes, as far as the plan says.
 pub(crate) fn read_units<S: Source>(source: &mut S, bytes: &mut Vec<u8>, plan: Plan) -> Found
-    ensures kept { Keeps (prepend_known bytes.old.items (S.held source.old))
+    requires at_most_the_plan { length bytes.old.items ≤ plan.most }
+    ensures no_byte_lost { Keeps (prepend_known bytes.old.items (S.held source.old))
         (prepend_known bytes.new.items (S.held source.new)) }
-    ensures whole { result.whole ≤ length bytes.new.items }
-    ensures left { length bytes.new.items + S.left source.new ≤ length bytes.old.items + S.left source.old }
-    ensures nothing { length bytes.new.items ≡ length bytes.old.items → (result.behind ≡ Behind.Failure → ⊥)
+    ensures whole_units_held { result.whole ≤ length bytes.new.items }
+    ensures at_most_the_plan { length bytes.new.items ≤ plan.most }
+    ensures left_never_rises { length bytes.new.items + S.left source.new
+        ≤ length bytes.old.items + S.left source.old }
+    ensures none_taken { length bytes.new.items ≡ length bytes.old.items → (result.behind ≡ Behind.Failure → ⊥)
         → S.left source.new ≡ S.left source.old }
     ensures end { result.behind ≡ Behind.End → IsAtEnd (S.held source.new) }
     ensures failed { result.behind ≡ Behind.Failure → Rose (S.faults source.old) (S.faults source.new) }
-    ensures count { S.faults source.old ≤ S.faults source.new }
+    ensures faults_never_fall { S.faults source.old ≤ S.faults source.new }
 {
     let mut whole = 0;
     let mut pictures = 0;
-    'units: while pictures < plan.pictures && bytes.len() < plan.most {
+    'units: while pictures < plan.pictures && bytes.len() + PARSE_INFO_LENGTH <= plan.most {
         let (behind, rest) = match read_unit(source, bytes, plan.most) {
             Next::Picture => {
                 whole = bytes.len();

@@ -5,8 +5,8 @@ use Rattle.std.specs.Io.KnownBytes.{Keeps, prepend_known}
 use Rattle.dirac_ahead.proofs.Grown.{before_room, cut_room, taken_behind}
 use Rattle.dirac_ahead.proofs.pieces.read_piece.Goals as goal
 
-pub returns-in-Bytes-clause-kept : goal.returns-in-Bytes-clause-kept
-returns-in-Bytes-clause-kept g c =
+pub returns-in-Bytes-clause-no_byte_lost : goal.returns-in-Bytes-clause-no_byte_lost
+returns-in-Bytes-clause-no_byte_lost g c =
     let old = c.args.bytes.now.items in
     let all = c.deref_mut.result.now in
     let n = c.in-Bytes.n in
