@@ -31,7 +31,7 @@ pub(crate) fn copied(alloc: Global, bytes: &[u8]) -> Result<Vec<u8>, NoMemory>
 }
 
 /// Decodes an intra picture by one worker; none where it is refused.
-pub(crate) fn decode_ahead(
+pub(crate) fn decode_alone(
     alloc: Global,
     payload: &[u8],
     code: u8,

@@ -6,7 +6,7 @@ pub(crate) struct Crew<'a, R, G> {
     pub(crate) rt: &'a R,
     pub(crate) workers: u32,
     pub(crate) gate: &'a G,
-    ghost some: { 1 ≤ workers },
+    ghost at_least_1: { 1 ≤ workers },
     ghost at_most_64: { workers ≤ 64 },
 }
 

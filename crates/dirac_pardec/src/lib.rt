@@ -1,5 +1,7 @@
-//! A decoder whose pictures are read and rebuilt by workers: intra pictures that stand one behind the other are decoded
-//! several at once, a worker each, and every other picture is shared out by its rows, as `dirac_slices` does.
+//! A decoder whose pictures are read and rebuilt by workers. They share the rows of each picture, as `dirac_slices`
+//! does; but of the pictures that were read ahead, eight at most and no more than there are workers, the intra pictures
+//! up to the first end unit are decoded several at once, a worker each, where they are at least two, more than half as
+//! many as there are workers, and of at most 2^23 luma samples.
 #![tactic(auto)]
 
 mod alone;

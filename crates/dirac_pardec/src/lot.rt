@@ -5,7 +5,7 @@ ghost use Rattle.dirac_sequence_header.specs.Lawful.{IsSequence};
 ghost use Rattle.dirac_picture.specs.Grammar.{is_intra as is_intra_code};
 ghost use Rattle.dirac_pardec.specs.Alone.{IsDecodedAlone};
 
-use crate::alone::{DecodedAhead, copied, decode_ahead};
+use crate::alone::{DecodedAhead, copied, decode_alone};
 use crate::crew::Crew;
 use dirac_ahead::Look;
 use dirac_common::{END_OF_SEQUENCE, NoMemory, RowGate, is_intra};
@@ -19,10 +19,10 @@ use std::marker::Sync;
 use std::thread::Threads;
 
 /// The most luma samples of a picture that is decoded ahead: all that are decoded together are held at once.
-const MOST_SAMPLES: u64 = 8_388_608;
+const MOST_LUMA_SAMPLES_AHEAD: u64 = 8_388_608;
 
 /// The most pictures that are decoded together.
-pub(crate) const MOST_PICTURES: u32 = 8;
+pub(crate) const MOST_PICTURES_AHEAD: u32 = 8;
 
 /// Pictures that were decoded ahead, the next one last; none in place of one that is refused.
 type Kept = Vec<Option<DecodedAhead>>;
@@ -109,7 +109,7 @@ fn decode_units<R: Threads + Sync, G: RowGate>(
     units: &[IntraUnit<'_>],
     sequence: &Sequence,
 ) -> Result<Kept, NoMemory>
-    requires some { 0 < length units.now }
+    requires not_empty { 0 < length units.now }
     requires sequence { IsSequence sequence.now }
 {
     let last = (units.len() - 1).min(63) as u32;
@@ -117,7 +117,7 @@ fn decode_units<R: Threads + Sync, G: RowGate>(
         requires { IsSequence sequence.now × (row ≤ last) × (last < length units.now) }
     {
         let unit = &units[(last - row) as usize];
-        decode_ahead(alloc, unit.payload, unit.code, sequence)
+        decode_alone(alloc, unit.payload, unit.code, sequence)
     };
     let workers = crew.workers.min(last + 1);
     map_rows(crew.rt, alloc, last + 1, workers, crew.gate, &work)
@@ -133,7 +133,7 @@ fn decode_lot<R: Threads + Sync, G: RowGate>(
 ) -> Option<Kept>
     requires { IsSequence sequence.now }
 {
-    if u64::from(sequence.width) * u64::from(sequence.picture_height()) > MOST_SAMPLES {
+    if u64::from(sequence.width) * u64::from(sequence.picture_height()) > MOST_LUMA_SAMPLES_AHEAD {
         return None;
     }
     let Ok(pictures) = intra_units(alloc, units) else {

@@ -8,7 +8,7 @@ ghost use Rattle.dirac_decode.specs.Decoded.{IfDone, IfTally, IsDecodedStream};
 
 use crate::at_hand::decode_at_hand;
 use crate::crew::Crew;
-use crate::lot::{Lot, MOST_PICTURES};
+use crate::lot::{Lot, MOST_PICTURES_AHEAD};
 use dirac_ahead::{Ahead, Begun, Lent, Plan};
 use dirac_common::{RowGate, Stop};
 use dirac_decode::{Decoded, decode_stream_by};
@@ -20,9 +20,10 @@ use std::alloc::Global;
 use std::marker::{Brand, Sync};
 use std::thread::Threads;
 
-/// Decodes a whole stream, as `decode_stream`, by that many workers. Units are read ahead, so that intra pictures are
-/// decoded several at once, a worker each; all other pictures are read and rebuilt as `read_planes_rows` and
-/// `rebuild_rows` do.
+/// Decodes a whole stream, as `decode_stream`, by that many workers. Units are read ahead, with at most eight pictures
+/// and no more than there are workers. Up to the first end unit among them the intra pictures are decoded several at
+/// once, a worker each, where they are at least two, more than half as many as there are workers, and of at most 2^23
+/// luma samples. All other pictures are read and rebuilt as `read_planes_rows` and `rebuild_rows` do.
 pub fn decode_rows<R: Threads + Sync, S: Source, K: Sink, G: RowGate>(
     rt: &R,
     alloc: Global,
@@ -49,7 +50,7 @@ pub fn decode_rows<R: Threads + Sync, S: Source, K: Sink, G: RowGate>(
 {
     let crew = Crew::new(rt, workers, gate);
     let lot = Lot::new();
-    let Finished { answer, source } = decode_ahead::<R, S, K, G, Brand>(
+    let Finished { answer, source } = decode_reading_ahead::<R, S, K, G, Brand>(
         &crew,
         &lot,
         alloc,
@@ -72,7 +73,7 @@ struct Finished<'a, S> {
 const MOST_AHEAD: usize = 1 << 25;
 
 /// Decodes a whole stream, as `decode_rows`, its units read ahead.
-fn decode_ahead<'a, R: Threads + Sync, S: Source, K: Sink, G: RowGate, B: Begun>(
+fn decode_reading_ahead<'a, R: Threads + Sync, S: Source, K: Sink, G: RowGate, B: Begun>(
     crew: &Crew<R, G>,
     lot: &'a Lot,
     alloc: Global,
@@ -106,7 +107,7 @@ fn decode_ahead<'a, R: Threads + Sync, S: Source, K: Sink, G: RowGate, B: Begun>
         ensures { DecodesPayload payload.now code sequence.now refs.old result refs.new }
     { decode_at_hand(crew, lot, alloc, payload, code, sequence, refs) };
     let plan = Plan {
-        pictures: crew.workers.min(MOST_PICTURES) as usize,
+        pictures: crew.workers.min(MOST_PICTURES_AHEAD) as usize,
         most: MOST_AHEAD,
     };
     let mut ahead = Ahead::<S, Lot, B>::new(alloc, lent, lot, plan);

@@ -3,7 +3,7 @@ use Rattle.std.specs.Prelude.{IfSome}
 use Rattle.std.specs.Io.KnownBytes.{prepend_known}
 use Rattle.dirac_decode.specs.Decoded.{IsFrontOfMore}
 use Rattle.dirac_pardec.proofs.Sources.{done_at_end, front_of_read}
-use Rattle.dirac_pardec.proofs.stream.decode_ahead.Goals as goal
+use Rattle.dirac_pardec.proofs.stream.decode_reading_ahead.Goals as goal
 
 pub returns-clause-front_of_read : goal.returns-clause-front_of_read
 returns-clause-front_of_read g c =
