@@ -16,7 +16,7 @@ use Rattle.dirac_picture.specs.declared.coded.CodedMotion.{CodedMotion}
 use Rattle.dirac_picture.specs.declared.coded.CodedPicture.{CodedPicture}
 use Rattle.dirac_picture.specs.declared.coded.CodedResidual.{CodedResidual}
 use Rattle.dirac_content.specs.Content.{IsPicture, IsPlane, width_of, height_of, named, samples_from, plane_samples, rebuilt}
-use Rattle.dirac_content.specs.Predicting.{inter_picture, intra_picture}
+use Rattle.dirac_content.specs.Predicting.{inter_picture}
 
 -- a clipped value is a sample
 clip_is_sample : (v : ℤ) → IsSample (clip v)
@@ -59,16 +59,3 @@ inter_found s refs coded m first second (Ok p) moves e f is =
     } in
     is ∙ ap₂ (λ (a b : Option Picture). inter_picture s a b coded.header m coded.residual) (sym e) f ∙ ap of (sym moves)
 inter_found s refs coded m first second (Err stop) moves e f is = tt
-
--- and an intra picture is the one of its residual
-pub intra_found : {E : Type 0} (s : Sequence) (refs : List Picture) (coded : CodedPicture) (r : Result Picture E)
-    → coded.motion ≡ None → IfOk r (λ p. p ≡ intra_picture s coded.header coded.residual) → IfOk r (λ p. p ≡ rebuilt s refs coded)
-intra_found s refs coded (Ok p) stays is =
-    let of : Option CodedMotion → Picture = λ x. record {
-      number = coded.header.number;
-      y = samples_from s refs coded.header x coded.residual component.Y;
-      u = samples_from s refs coded.header x coded.residual component.U;
-      v = samples_from s refs coded.header x coded.residual component.V;
-    } in
-    is ∙ ap of (sym stays)
-intra_found s refs coded (Err stop) stays is = tt
