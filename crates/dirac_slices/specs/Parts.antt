@@ -16,23 +16,23 @@ pub record AreSomeParts (p : Parts) : Type 0 where
   pub inside : p.end ≤ p.all
   pub at_most_64 : p.all ≤ 64
 
--- the first half of more than one part, and the other
+-- the first half of more than one part, and the second
 abbrev pub first_half_of : Parts → Parts
 first_half_of p = record { first = p.first; end = p.first + (p.end - p.first) / 2; all = p.all }
 
-abbrev pub back_of : Parts → Parts
-back_of p = record { first = p.first + (p.end - p.first) / 2; end = p.end; all = p.all }
+abbrev pub second_half_of : Parts → Parts
+second_half_of p = record { first = p.first + (p.end - p.first) / 2; end = p.end; all = p.all }
 
 -- the first row of a plane that stands in these parts, and the row behind them
 abbrev pub first_row_of_parts : Sequence → Parts → Component → ℕ
 first_row_of_parts s p c = first_row (height_of s c) p.all p.first
 
-abbrev pub row_to : Sequence → Parts → Component → ℕ
-row_to s p c = first_row (height_of s c) p.all p.end
+abbrev pub end_row_of_parts : Sequence → Parts → Component → ℕ
+end_row_of_parts s p c = first_row (height_of s c) p.all p.end
 
 -- how many samples of a plane stand in them
 unfoldable pub room_in : Sequence → Parts → Component → ℕ
-room_in s p c = width_of s c * (row_to s p c - first_row_of_parts s p c)
+room_in s p c = width_of s c * (end_row_of_parts s p c - first_row_of_parts s p c)
 
 -- lists as long as these parts of the planes Y, U, V
 pub record HaveRoom (s : Sequence) (p : Parts) (ys us vs : List ℤ) : Type 0 where
@@ -48,7 +48,7 @@ pub record IsRoomForPicture (s : Sequence) (p : Picture) : Type 0 where
 
 -- these parts of a plane
 unfoldable pub part_values : Sequence → (Component → Table) → Parts → Component → List ℤ
-part_values s planes p c = values_between s planes c (first_row_of_parts s p c) (row_to s p c)
+part_values s planes p c = values_between s planes c (first_row_of_parts s p c) (end_row_of_parts s p c)
 
 -- lists that hold these parts of the planes Y, U, V
 pub record AreFilled (s : Sequence) (planes : Component → Table) (p : Parts) (ys us vs : List ℤ) : Type 0 where

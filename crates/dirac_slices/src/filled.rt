@@ -4,8 +4,8 @@ ghost use Rattle.std.specs.Thread.{IsSync};
 ghost use Rattle.dirac_common.specs.declared.formats.Component.TheVariants as component;
 ghost use Rattle.dirac_content.specs.Content as content;
 ghost use Rattle.dirac_slices.specs.Basis.{planes_of, basis_sequence, IsBasis};
-ghost use Rattle.dirac_slices.specs.Parts.{first_row_of_parts, row_to, room_in};
-ghost use Rattle.dirac_slices.specs.Parts.{back_of, first_half_of, part_values, AreFilled, AreSomeParts, HaveRoom};
+ghost use Rattle.dirac_slices.specs.Parts.{first_row_of_parts, end_row_of_parts, room_in};
+ghost use Rattle.dirac_slices.specs.Parts.{second_half_of, first_half_of, part_values, AreFilled, AreSomeParts, HaveRoom};
 ghost use Rattle.dirac_slices.specs.Parts.{IsRoomForPicture};
 ghost use Rattle.dirac_slices.specs.Places as places;
 ghost use Rattle.dirac_slices.specs.Samples.{values_between};
@@ -93,7 +93,7 @@ fn rows_of(making: &Making<'_, '_>, plane: u32, parts: Parts) -> (u32, u32)
     requires basis { IsBasis making.now.basis }
     requires parts { AreSomeParts parts }
     ensures from { result.0 ≡ first_row_of_parts (basis_sequence making.now.basis) parts (places.component_at plane) }
-    ensures to { result.1 ≡ row_to (basis_sequence making.now.basis) parts (places.component_at plane) }
+    ensures to { result.1 ≡ end_row_of_parts (basis_sequence making.now.basis) parts (places.component_at plane) }
     ensures order { result.0 ≤ result.1 }
     ensures inside { result.1 ≤ content.height_of (basis_sequence making.now.basis) (places.component_at plane) }
 {
@@ -108,7 +108,7 @@ fn halves(parts: Parts) -> (Parts, Parts)
     requires parts { AreSomeParts parts }
     requires more { 1 < parts.end - parts.first }
     ensures front { result.0 ≡ first_half_of parts }
-    ensures back { result.1 ≡ back_of parts }
+    ensures back { result.1 ≡ second_half_of parts }
     ensures are_front { AreSomeParts result.0 }
     ensures are_back { AreSomeParts result.1 }
     ensures fewer_in_front { result.0.end - result.0.first < parts.end - parts.first }
@@ -135,7 +135,7 @@ fn room_before(making: &Making<'_, '_>, plane: u32, parts: Parts, front: Parts) 
     requires are_front { AreSomeParts front }
     requires front { front ≡ first_half_of parts }
     ensures value { result ≡ room_in (basis_sequence making.now.basis) front (places.component_at plane) }
-    ensures rest { result + room_in (basis_sequence making.now.basis) (back_of parts) (places.component_at plane)
+    ensures rest { result + room_in (basis_sequence making.now.basis) (second_half_of parts) (places.component_at plane)
         ≡ room_in (basis_sequence making.now.basis) parts (places.component_at plane) }
 {
     let _end = parts.end;
