@@ -412,6 +412,24 @@ fn shows_pictures_before_the_input_ends(rt: HostRuntime) -> Result<(), Fail> {
     Ok(())
 }
 
+// Two workers read two pictures ahead: up to the ends of pictures 1, 3 and 5, behind which the end unit stands. The first
+// picture leaves while the fifth is taken.
+#[test]
+fn reads_no_more_pictures_ahead_than_there_are_workers(rt: HostRuntime) -> Result<(), Fail> {
+    let alloc = rt.alloc();
+    let bytes = six_pictures(alloc)?;
+    let outside = Outside {
+        writes: &[0],
+        ..pieces(4096)
+    };
+    let mut left = decoded(&rt, alloc, &["pardecode", "--workers=2"], &bytes, &outside)?;
+    assert_eq!(rt; left.ended, Ended::WriteFault);
+    let mut rest = [0u8; 64];
+    assert_eq!(rt; left.source.read(&mut rest), Got::Bytes(13));
+    assert_eq!(rt; rest[4], 0x10);
+    Ok(())
+}
+
 #[test]
 fn says_how_it_ended(rt: HostRuntime) -> Result<(), Fail> {
     let alloc = rt.alloc();
