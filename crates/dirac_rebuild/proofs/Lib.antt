@@ -1,2 +1,4 @@
 pub mod Fitting
+pub mod MotionRows
 pub mod Pictures
+pub mod Residuals

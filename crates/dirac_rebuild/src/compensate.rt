@@ -139,7 +139,7 @@ impl<'a> Doubled<'a> {
     ghost use Rattle.dirac_rebuild.specs.Doubled.{doubled_plane_in};
 
     /// Lends the plane.
-    fn plane(&self) -> &UpPlane
+    pub(crate) fn plane(&self) -> &UpPlane
         ensures { result.now ≡ doubled_plane_in self.now }
     {
         match self {
@@ -150,7 +150,7 @@ impl<'a> Doubled<'a> {
 }
 
 /// A plane of a reference with its half samples, which are made where they aren't kept.
-fn up_of_reference<'a>(
+pub(crate) fn up_of_reference<'a>(
     alloc: Global,
     sequence: &Sequence,
     reference: &'a Reference,

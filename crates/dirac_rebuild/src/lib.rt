@@ -2,6 +2,7 @@
 #![tactic(auto)]
 
 mod compensate;
+mod motion_rows;
 mod picture;
 mod planes;
 

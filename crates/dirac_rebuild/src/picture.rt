@@ -2,23 +2,26 @@ ghost use Rattle.std.specs.Prelude.{◌≡◌, ◌*◌, length, Some, IfOk, IfSo
 ghost use Rattle.std.specs.Option.{ForSome, option_copied};
 ghost use Rattle.dirac_common.specs.declared.formats.Kind.TheVariants.{Inter};
 ghost use Rattle.dirac_sequence_header.specs.Lawful.{IsSequence};
+ghost use Rattle.dirac_obmc.specs.Compensation.{predicted_plane};
 ghost use Rattle.dirac_picture.specs.Fits.{FitsSequence, IsMotion, IsResidual, NamesReferences};
 ghost use Rattle.dirac_synthesis.specs.Residual.{clipped as clipped_table, with_prediction};
 ghost use Rattle.dirac_content.specs.Content as content;
 ghost use Rattle.dirac_content.specs.Content.{AreReferences, IsPicture, rebuilt};
-ghost use Rattle.dirac_content.specs.Predicting.{inter_picture, inter_plane, intra_picture};
+ghost use Rattle.dirac_content.specs.Predicting.{inter_picture, inter_plane, intra_picture, IsUpOfPart};
 ghost use Rattle.dirac_rebuild.specs.Moved.{IsMoved};
 ghost use Rattle.dirac_rebuild.specs.Rebuilding.{CanBeRebuilt};
 
-use crate::compensate::{Moved, predict_from};
+use crate::compensate::{Moved, plane_motion, up_of_reference};
+use crate::motion_rows::MotionRows;
 use crate::planes::unfinished_of;
 use dirac_common::{Kind, NoMemory, Picture, Plane};
 use dirac_content::named_reference;
-use dirac_obmc::Component;
+use dirac_obmc::{Component, column_weights};
 use dirac_picture::{CodedMotion, CodedPicture, CodedResidual};
 use dirac_refs::{RefBuffer, Reference};
 use dirac_sequence_header::Sequence;
-use dirac_synthesis::{clipped_by_strips, clipped_sum_by_strips};
+use dirac_synthesis::{clipped_by_strips, clipped_sum_by_rows, clipped_sum_by_strips};
+use dirac_upconvert::UpPlane;
 use std::alloc::Global;
 
 /// The samples of a plane of an intra picture: its residual, clipped.
@@ -56,6 +59,39 @@ pub fn predicted_samples(
     clipped_sum_by_strips(alloc, &residual, predicted)
 }
 
+/// The samples of a plane of an inter picture, from planes of its references that are upconverted already: its residual
+/// and what they predict, clipped. Some rows are predicted at a time.
+fn samples_with(
+    alloc: Global,
+    moved: &Moved<'_>,
+    residual: &Option<CodedResidual>,
+    first: &UpPlane,
+    second: Option<&UpPlane>,
+    component: Component,
+) -> Result<Plane, NoMemory>
+    requires moved { IsMoved moved.now }
+    requires fits { IfSome residual.now (IsResidual moved.now.sequence.now) }
+    requires first { IsUpOfPart moved.now.sequence.now component first.now }
+    requires second { ForSome (option_copied second) (IsUpOfPart moved.now.sequence.now component) }
+    requires two { moved.now.motion.now.blocks.refs ≡ 2 → IsSome second }
+    ensures { IfOk result (λ t. t ≡ clipped_table (with_prediction
+        (content.residual_among moved.now.sequence.now Inter component residual.now)
+        (predicted_plane (content.compensated moved.now.sequence.now moved.now.motion.now first.now
+        (option_copied second.entry) component)).values)) }
+{
+    let motion = plane_motion(
+        moved.code,
+        moved.sequence,
+        moved.motion,
+        first,
+        second,
+        component,
+    );
+    let weights = column_weights(alloc, &motion)?;
+    let residual = unfinished_of(alloc, moved.sequence, Kind::Inter, component, residual)?;
+    clipped_sum_by_rows(alloc, &residual, &MotionRows { motion, weights })
+}
+
 /// The samples of a plane of an inter picture: its residual and what its references predict, clipped.
 fn inter_samples(
     alloc: Global,
@@ -73,9 +109,15 @@ fn inter_samples(
     ensures value { IfOk result (λ t. t ≡ inter_plane moved.now.sequence.now (Some first.now)
         (option_copied second.entry) moved.now.motion.now residual.now component) }
 {
-    let predicted = predict_from(alloc, moved, first, second, component)?;
-    let values = predicted.values();
-    predicted_samples(alloc, moved.sequence, residual, values, component)
+    let first = up_of_reference(alloc, moved.sequence, first, component)?;
+    match second {
+        None => samples_with(alloc, moved, residual, first.plane(), None, component),
+        Some(second) => {
+            let second = up_of_reference(alloc, moved.sequence, second, component)?;
+            let second = Some(second.plane());
+            samples_with(alloc, moved, residual, first.plane(), second, component)
+        }
+    }
 }
 
 /// An inter picture, from its references.

@@ -18,6 +18,7 @@ use Rattle.dirac_obmc.specs.Compensation.{predicted_at}
 use Rattle.dirac_synthesis.specs.Residual.{clipped, rows_between, summed_with, with_prediction}
 use Rattle.dirac_picture.specs.declared.coded.CodedResidual.{CodedResidual}
 use Rattle.dirac_picture.proofs.Chroma.{part_size}
+use Rattle.dirac_rebuild.proofs.Residuals.{residual_size}
 use Rattle.dirac_content.specs.Content.{compensation, height_of, residual_among, width_of}
 use Rattle.dirac_slices.specs.declared.basis.Basis.{Basis}
 use Rattle.dirac_slices.specs.declared.basis.Basis.TheVariants.{Intra as FromIntra, Inter as FromInter}
@@ -25,7 +26,7 @@ use Rattle.dirac_slices.specs.declared.intra.Intra.{Intra}
 use Rattle.dirac_slices.specs.declared.filled.Parts.{Parts}
 use Rattle.dirac_slices.specs.Basis.{planes_of, basis_sequence, IsBasis}
 use Rattle.dirac_slices.specs.Given.{lent_inter, Lent, predicted_between}
-use Rattle.dirac_slices.specs.Parts.{back_of, first_half_of, first_row_of_parts, part_values, room_in, row_to, AreFilled, AreSomeParts, HaveRoom}
+use Rattle.dirac_slices.specs.Parts.{second_half_of, first_half_of, first_row_of_parts, part_values, room_in, end_row_of_parts, AreFilled, AreSomeParts, HaveRoom}
 use Rattle.dirac_slices.specs.Places.{first_row}
 use Rattle.dirac_slices.specs.Samples.{intra_planes, inter_planes, samples_between, values_between, FitPlanes, FitsPlane}
 use Rattle.dirac_slices.proofs.Strips.{clip_strip, filled_length, from_first, sum_strip, room_joined, told, values_joined}
@@ -34,13 +35,7 @@ use Rattle.dirac_slices.proofs.Strips.{clip_strip, filled_length, from_first, su
 plane_whole : (s : Sequence) (c : Component) (t : Table) → IsSequence s → FitsPlane s c t → table_of (width_of s c) (height_of s c) (table_at t) ≡ t
 plane_whole s c t lawful fits = sym (told (table_at t) t (width_of s c) (height_of s c) fits.across fits.down (part_size s c lawful).across.0 fits.whole (λ x y p q. refl))
 
--- a residual has the size of its plane
-pub residual_size : (s : Sequence) (kind : Kind) (c : Component) (coded : Option CodedResidual) (t : Table) → t ≡ residual_among s kind c coded
-    → (t.width ≡ width_of s c) × (t.height ≡ height_of s c)
-residual_size s kind c None t is = (ap (λ (x : Table). x.width) is, ap (λ (x : Table). x.height) is)
-residual_size s kind c (Some r) t is = (ap (λ (x : Table). x.width) is, ap (λ (x : Table). x.height) is)
-
--- and as many values
+-- a residual has as many values as its plane
 pub residual_length : (s : Sequence) (kind : Kind) (c : Component) (coded : Option CodedResidual) (t : Table) → t ≡ residual_among s kind c coded
     → length t.values ≡ width_of s c * height_of s c
 unfolding filled
@@ -144,7 +139,7 @@ rows_halve h p are =
     (rows_grow h p.all p.first (first_half_of p).end all (omega arith), rows_grow h p.all (first_half_of p).end p.end all (omega arith))
 
 -- the halves have as much room together
-pub room_halved : (s : Sequence) (p : Parts) (c : Component) → AreSomeParts p → room_in s (first_half_of p) c + room_in s (back_of p) c ≡ room_in s p c
+pub room_halved : (s : Sequence) (p : Parts) (c : Component) → AreSomeParts p → room_in s (first_half_of p) c + room_in s (second_half_of p) c ≡ room_in s p c
 unfolding room_in
 room_halved s p c are =
     let h = height_of s c in
@@ -152,22 +147,22 @@ room_halved s p c are =
     room_joined (width_of s c) (first_row h p.all p.first) (first_row h p.all (first_half_of p).end) (first_row h p.all p.end) order.0 order.1
 
 -- as many values stand in parts as in their rows
-pub room_of_rows : (s : Sequence) (p : Parts) (c : Component) (from to n : ℕ) → from ≡ first_row_of_parts s p c → to ≡ row_to s p c → n ≡ width_of s c * (to - from) → n ≡ room_in s p c
+pub room_of_rows : (s : Sequence) (p : Parts) (c : Component) (from to n : ℕ) → from ≡ first_row_of_parts s p c → to ≡ end_row_of_parts s p c → n ≡ width_of s c * (to - from) → n ≡ room_in s p c
 unfolding room_in
 room_of_rows s p c from to n ef et e = e ∙ ap₂ (λ a b. width_of s c * (b - a)) ef et
 
-pub rows_of_room : (s : Sequence) (p : Parts) (c : Component) (from to n : ℕ) → from ≡ first_row_of_parts s p c → to ≡ row_to s p c → n ≡ room_in s p c → n ≡ width_of s c * (to - from)
+pub rows_of_room : (s : Sequence) (p : Parts) (c : Component) (from to n : ℕ) → from ≡ first_row_of_parts s p c → to ≡ end_row_of_parts s p c → n ≡ room_in s p c → n ≡ width_of s c * (to - from)
 unfolding room_in
 rows_of_room s p c from to n ef et e = e ∙ sym (ap₂ (λ a b. width_of s c * (b - a)) ef et)
 
-pub part_of_rows : (s : Sequence) (planes : Component → Table) (p : Parts) (c : Component) (from to : ℕ) (xs : List ℤ) → from ≡ first_row_of_parts s p c → to ≡ row_to s p c
+pub part_of_rows : (s : Sequence) (planes : Component → Table) (p : Parts) (c : Component) (from to : ℕ) (xs : List ℤ) → from ≡ first_row_of_parts s p c → to ≡ end_row_of_parts s p c
     → xs ≡ values_between s planes c from to → xs ≡ part_values s planes p c
 unfolding part_values
 part_of_rows s planes p c from to xs ef et e = e ∙ ap₂ (λ a b. values_between s planes c a b) ef et
 
 -- and hold together what all parts hold
 part_joined : (s : Sequence) (planes : Component → Table) (p : Parts) (c : Component) → IsSequence s → AreSomeParts p
-    → part_values s planes (first_half_of p) c ++ part_values s planes (back_of p) c ≡ part_values s planes p c
+    → part_values s planes (first_half_of p) c ++ part_values s planes (second_half_of p) c ≡ part_values s planes p c
 unfolding part_values
 part_joined s planes p c lawful are =
     let h = height_of s c in
@@ -175,7 +170,7 @@ part_joined s planes p c lawful are =
     values_joined (table_at (planes c)) (width_of s c) (first_row h p.all p.first) (first_row h p.all (first_half_of p).end) (first_row h p.all p.end) (part_size s c lawful).across.0 order.0 order.1
 
 pub filled_halves : (s : Sequence) (planes : Component → Table) (p : Parts) (ys us vs ys' us' vs' : List ℤ) → IsSequence s → AreSomeParts p
-    → AreFilled s planes (first_half_of p) ys us vs → AreFilled s planes (back_of p) ys' us' vs' → AreFilled s planes p (ys ++ ys') (us ++ us') (vs ++ vs')
+    → AreFilled s planes (first_half_of p) ys us vs → AreFilled s planes (second_half_of p) ys' us' vs' → AreFilled s planes p (ys ++ ys') (us ++ us') (vs ++ vs')
 filled_halves s planes p ys us vs ys' us' vs' lawful are front back = record {
   y = ap₂ ◌++◌ front.y back.y ∙ part_joined s planes p component.Y lawful are;
   u = ap₂ ◌++◌ front.u back.u ∙ part_joined s planes p component.U lawful are;

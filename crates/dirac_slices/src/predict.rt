@@ -6,11 +6,11 @@ ghost use Rattle.dirac_slices.specs.Prepared.{ArePrepared};
 ghost use Rattle.dirac_slices.specs.Samples.{inter_planes, samples_between};
 
 use crate::inter::Inter;
-use crate::prepared::{Prepared, residual_rows};
+use crate::prepared::{Prepared, lent_residual};
 use crate::weights::{PlaneWeights, motion_at, weights_at};
 use dirac_common::{LARGEST_TABLE_SIDE, NoMemory, Plane};
 use dirac_obmc::predict_rows_with;
-use dirac_synthesis::clipped_sum;
+use dirac_synthesis::clipped_sum_of_rows;
 use std::alloc::Global;
 
 /// The samples of rows `from` to `to` of the plane of this number: these rows of its residual and of what is predicted,
@@ -37,6 +37,6 @@ pub(crate) fn samples_at(
     let motion = motion_at(inter, prepared, plane);
     let columns = weights_at(inter, weights, plane);
     let predicted = predict_rows_with(alloc, &motion, columns, from, to)?;
-    let residual = residual_rows(alloc, inter, prepared, plane, from, to)?;
-    clipped_sum(alloc, &residual, predicted.values())
+    let residual = lent_residual(inter, prepared, plane);
+    clipped_sum_of_rows(alloc, residual, from, to, predicted.values())
 }

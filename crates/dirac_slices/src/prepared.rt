@@ -6,7 +6,6 @@ ghost use Rattle.std.specs.Option.{option_copied};
 ghost use Rattle.dirac_common.specs.declared.formats.Kind.TheVariants.{Inter as OfInter};
 ghost use Rattle.dirac_common.specs.declared.picture.Picture.{Picture};
 ghost use Rattle.dirac_sequence_header.specs.Lawful.{IsSequence};
-ghost use Rattle.dirac_synthesis.specs.Residual.{rows_between};
 ghost use Rattle.dirac_content.specs.Content.{IsPicture, height_of, plane_of as lent_plane, residual_among, up_of};
 ghost use Rattle.dirac_slices.specs.Given.{lent_inter, IsInter};
 ghost use Rattle.dirac_slices.specs.Places as places;
@@ -18,7 +17,7 @@ use dirac_common::{Component, Kind, NoMemory, Picture, RowGate};
 use dirac_rebuild::{unfinished_of, up_plane};
 use dirac_rows::map_rows;
 use dirac_sequence_header::Sequence;
-use dirac_synthesis::{Residual, Unfinished};
+use dirac_synthesis::Unfinished;
 use dirac_upconvert::UpPlane;
 use std::alloc::Global;
 use std::marker::Sync;
@@ -132,28 +131,21 @@ pub(crate) fn prepare_rows<'a, R: Threads + Sync, G: RowGate>(
     map_rows(rt, alloc, PREPARED_ROWS, workers, gate, &work)
 }
 
-/// Rows `from` to `to` of the residual of the plane of this number.
-pub(crate) fn residual_rows(
-    alloc: Global,
+/// Lends the residual of the plane of this number.
+pub(crate) fn lent_residual<'r, 'a>(
     inter: &Inter<'_>,
-    prepared: &[Prepared<'_>],
+    prepared: &'r [Prepared<'a>],
     plane: u32,
-    from: u32,
-    to: u32,
-) -> Result<Residual, NoMemory>
-    requires inter { IsInter (lent_inter inter.now) }
+) -> &'r Unfinished<'a>
     requires prepared { ArePrepared (lent_inter inter.now) prepared.now }
     requires plane { plane < 3 }
-    requires some { from < to }
-    requires inside { to ≤ height_of (lent_inter inter.now).sequence (places.component_at plane) }
-    ensures value { IfOk result (λ t. t ≡ rows_between from to (residual_among (lent_inter inter.now).sequence OfInter
-        (places.component_at plane) (lent_inter inter.now).residual)) }
-    ensures bound { IfOk result (λ t. All (λ v. unsigned_abs v ≤ 2 ^ 108) t.values) }
+    ensures { result.now ≡ residual_among (lent_inter inter.now).sequence OfInter (places.component_at plane)
+        (lent_inter inter.now).residual }
 {
     let row = 3 * plane as usize;
     match &prepared[row].residual {
         None => unreachable!(),
-        Some(residual) => residual.rows(alloc, from, to),
+        Some(residual) => residual,
     }
 }
 

@@ -10,4 +10,5 @@ pub mod LevelLemmas
 pub mod Maps
 pub mod Sizes
 pub mod StripRows
+pub mod SumRows
 pub mod ZeroBands

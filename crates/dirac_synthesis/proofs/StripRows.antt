@@ -4,7 +4,7 @@ use Rattle.std.proofs.lemmas.List.{length-map, length-take-le, get_or-drop, get_
 use Rattle.std.proofs.lemmas.Nat.{mul-add-lt, row_fits}
 use Rattle.std.proofs.lemmas.Simd.{length-zip2, get_or-zip2}
 use Rattle.dirac_common.specs.Samples.{clip}
-use Rattle.dirac_common.specs.Table.{Table, table_of}
+use Rattle.dirac_common.specs.Table.{Table, table_at, table_of}
 use Rattle.dirac_common.proofs.Rows.{rows_all}
 use Rattle.dirac_synthesis.specs.Residual.{clipped, summed_with, with_prediction}
 use Rattle.dirac_synthesis.specs.declared.strips.Others.{Others}
@@ -18,21 +18,32 @@ sum_at xs ys k l e =
     get_or-map clip (summed_with xs ys) k (pos 0) (pos 0) (omega (arith, l, len))
     ∙ ap clip (get_or-zip2 (λ v w. v +ℤ w) xs ys k (pos 0) (pos 0) (pos 0) l (omega (arith, l, e)))
 
--- samples, told by column and row
-pub samples_told : (o : Others) (t : Table) → 0 < t.width → length t.values ≡ t.width * t.height → AreAsMany o (t.width * t.height) → clipped (with_others o t) ≡ table_of t.width t.height (sample_at o t)
-samples_told Nothing t some whole fits =
-    rows_all (sample_at Nothing t) (clipped t) t.width t.height t.height refl refl some (omega arith)
+-- clipped values, told by column and row
+pub clips_told : (t : Table) → 0 < t.width → length t.values ≡ t.width * t.height → clipped t ≡ table_of t.width t.height (λ x y. clip (table_at t x y))
+clips_told t some whole =
+    rows_all (λ x y. clip (table_at t x y)) (clipped t) t.width t.height t.height refl refl some (omega arith)
     (record {
       len = length-map t.values clip ∙ whole;
       done = λ x y l k. get_or-map clip t.values (y * t.width + x) (pos 0) (pos 0) (omega (arith, whole, mul-add-lt y t.width x t.height k l));
     })
-samples_told (Predicted values) t some whole fits =
-    let predicted : List ℤ = values.now in
-    rows_all (sample_at (Predicted values) t) (clipped (with_prediction t predicted)) t.width t.height t.height refl refl some (omega arith)
+
+-- and clipped sums
+abbrev pub sum_in : Table → List ℤ → ℕ → ℕ → ℤ
+sum_in t others x y = clip (table_at t x y +ℤ get_or others (y * t.width + x) (pos 0))
+
+pub sums_told : (t : Table) (others : List ℤ) → 0 < t.width → length t.values ≡ t.width * t.height → length others ≡ t.width * t.height
+    → clipped (with_prediction t others) ≡ table_of t.width t.height (sum_in t others)
+sums_told t others some whole fits =
+    rows_all (sum_in t others) (clipped (with_prediction t others)) t.width t.height t.height refl refl some (omega arith)
     (record {
-      len = length-map (summed_with t.values predicted) clip ∙ length-zip2 (λ v w. v +ℤ w) t.values predicted (whole ∙ sym fits) ∙ whole;
-      done = λ x y l k. sum_at t.values predicted (y * t.width + x) (omega (arith, whole, mul-add-lt y t.width x t.height k l)) (fits ∙ sym whole);
+      len = length-map (summed_with t.values others) clip ∙ length-zip2 (λ v w. v +ℤ w) t.values others (whole ∙ sym fits) ∙ whole;
+      done = λ x y l k. sum_at t.values others (y * t.width + x) (omega (arith, whole, mul-add-lt y t.width x t.height k l)) (fits ∙ sym whole);
     })
+
+-- samples, told by column and row
+pub samples_told : (o : Others) (t : Table) → 0 < t.width → length t.values ≡ t.width * t.height → AreAsMany o (t.width * t.height) → clipped (with_others o t) ≡ table_of t.width t.height (sample_at o t)
+samples_told Nothing t some whole fits = clips_told t some whole
+samples_told (Predicted values) t some whole fits = sums_told t values.now some whole fits
 
 -- as many values as a plane has are enough for its rows
 pub enough_others : (o : Others) (w h y : ℕ) → AreAsMany o (w * h) → y < h → AreEnough o (y * w + w)

@@ -160,7 +160,7 @@ added_zero (x ∷ xs) = ap₂ (λ (v : ℤ) (vs : List ℤ). v ∷ vs) (+ℤ_idl
 summed_zeros : (n : ℕ) (xs : List ℤ) → length xs ≡ n → summed_with (replicate n (pos 0)) xs ≡ xs
 summed_zeros n xs is = zip2_splat_left (λ (v other : ℤ). v +ℤ other) (pos 0) n xs is ∙ added_zero xs
 
-zeros_summed : (w h : ℕ) (predicted : List ℤ) → length predicted ≡ w * h
+pub zeros_summed : (w h : ℕ) (predicted : List ℤ) → length predicted ≡ w * h
     → with_prediction (zeros w h) predicted ≡ record { width = w; height = h; values = predicted }
 zeros_summed w h predicted is = ap (λ (values : List ℤ). record { width = w; height = h; values = values }) (summed_zeros (w * h) predicted is)
 

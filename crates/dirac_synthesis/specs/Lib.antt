@@ -7,5 +7,6 @@ pub mod NarrowLevels
 pub mod Planes
 pub mod Residual
 pub mod Strips
+pub mod Sums
 pub mod Unfinished
 pub mod Zeros

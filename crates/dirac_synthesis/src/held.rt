@@ -45,6 +45,16 @@ impl Residual {
         }
     }
 
+    /// The number of rows.
+    pub(crate) fn height(&self) -> u32
+        ensures { result ≡ self.now.height }
+    {
+        match &self.held {
+            Held::Narrow(values) => values.height(),
+            Held::Wide(values) => values.height(),
+        }
+    }
+
     /// What is held in 32 bits.
     pub(crate) fn of_narrow(values: Narrow) -> Residual
         ensures { result ≡ values }

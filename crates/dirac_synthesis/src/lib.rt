@@ -17,6 +17,7 @@ mod restore;
 mod scale;
 mod shared;
 mod strips;
+mod sums;
 mod unfinished;
 
 pub use clip::{clipped, clipped_sum};
@@ -24,5 +25,6 @@ pub use codeblocks::first_codeblock;
 pub use held::Residual;
 pub use laws::{each_place_has_a_codeblock, one_index_restores_all, zero_bands_stand_for_zeros};
 pub use plane::plane_residual;
-pub use strips::{clipped_by_strips, clipped_sum_by_strips};
+pub use strips::{clipped_by_strips, clipped_sum_by_strips, clipped_sum_of_rows};
+pub use sums::{PredictsRows, clipped_sum_by_rows};
 pub use unfinished::{Unfinished, unfinished_residual};

@@ -1,7 +1,7 @@
 //! The samples of a plane, made row by row: a row of its residual is clipped as soon as it is synthesised.
-ghost use Rattle.std.specs.Prelude.{◌≡◌, ℕ, pos, ◌+◌, ◌*◌, ◌<◌, ◌≤◌, length, slice_index_or, IfOk};
+ghost use Rattle.std.specs.Prelude.{◌≡◌, ℕ, pos, ◌+◌, ◌-◌, ◌*◌, ◌<◌, ◌≤◌, length, slice_index_or, IfOk};
 ghost use Rattle.dirac_synthesis.specs.LastLevel.{HasMade, IsLastLevel, last_residual};
-ghost use Rattle.dirac_synthesis.specs.Residual.{clipped as clipped_table, with_prediction};
+ghost use Rattle.dirac_synthesis.specs.Residual.{clipped as clipped_table, rows_between, with_prediction};
 ghost use Rattle.dirac_synthesis.specs.Strips.{AreAsMany, AreEnough, clipped_with, with_others};
 ghost use Rattle.dirac_synthesis.specs.Unfinished.{IsUnfinishedPart, part_table};
 ghost use Rattle.dirac_synthesis.specs.Zeros.{zeros};
@@ -136,4 +136,34 @@ pub fn clipped_sum_by_strips(
     ensures { IfOk result (λ plane. plane ≡ clipped_table (with_prediction residual.now predicted.now)) }
 {
     clip_part(alloc, residual.part(), Others::Predicted(predicted))
+}
+
+/// The samples of rows `from` to `to - 1` of a plane: the values of its residual there plus their predictions, which
+/// stand by rows, each sum clipped to -128 to 127 (picture decoding, Dirac specification).
+pub fn clipped_sum_of_rows(
+    alloc: Global,
+    residual: &Unfinished<'_>,
+    from: u32,
+    to: u32,
+    predicted: &[i32],
+) -> Result<Plane, NoMemory>
+    requires some { from < to }
+    requires inside { to ≤ residual.now.height }
+    requires predicted { length predicted.now ≡ residual.now.width * (to - from) }
+    ensures { IfOk result (λ plane. plane ≡ clipped_table (with_prediction (rows_between from to residual.now)
+        predicted.now)) }
+{
+    match residual.part() {
+        Part::Zeros(extent) => {
+            let rows = Extent {
+                width: extent.width,
+                height: to - from,
+            };
+            clip_predicted(alloc, rows, predicted)
+        }
+        Part::Whole(_) | Part::Lines(_) => {
+            let rows = residual.rows(alloc, from, to)?;
+            clipped_sum(alloc, &rows, predicted)
+        }
+    }
 }

@@ -4,7 +4,7 @@ use Rattle.dirac_content.specs.Content.{residual_among}
 use Rattle.dirac_picture.proofs.Chroma.{part_size}
 use Rattle.dirac_synthesis.proofs.Maps.{ok_weaker}
 use Rattle.dirac_synthesis.specs.Residual.{clipped}
-use Rattle.dirac_slices.proofs.Between.{residual_size}
+use Rattle.dirac_rebuild.proofs.Residuals.{residual_size}
 use Rattle.dirac_slices.proofs.intra.plane_samples.Goals as goal
 
 pub residual_of-requires-clause-sequence : goal.residual_of-requires-clause-sequence

@@ -4,7 +4,8 @@ use Rattle.dirac_picture.proofs.Chroma.{part_size}
 use Rattle.dirac_synthesis.proofs.Maps.{ok_weaker}
 use Rattle.dirac_synthesis.specs.Residual.{rows_between}
 use Rattle.dirac_slices.specs.Places.{component_at}
-use Rattle.dirac_slices.proofs.Between.{intra_between, residual_size, strip_size}
+use Rattle.dirac_rebuild.proofs.Residuals.{residual_size}
+use Rattle.dirac_slices.proofs.Between.{intra_between, strip_size}
 use Rattle.dirac_slices.proofs.intra.samples_at.Goals as goal
 
 pub rows-requires-clause-inside : goal.rows-requires-clause-inside
