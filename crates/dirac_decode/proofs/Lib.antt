@@ -14,3 +14,4 @@ pub mod Taken
 pub mod Between
 pub mod Lengthened
 pub mod Finishing
+mod Examples

@@ -10,6 +10,7 @@ pub mod Streamed
 pub use Rattle.dirac_content.specs.Sequences
 pub use Rattle.dirac_content.specs.Predicting
 pub use Rattle.dirac_rebuild.specs.Rebuilding
+pub use Rattle.dirac_decode_picture.specs.Payload
 pub use Rattle.dirac_rebuild.specs.Moved
 pub mod Stepping
 pub use Rattle.dirac_content.specs.Leaving

@@ -55,7 +55,7 @@ pub fn decode_stream_by<
     // Whatever is answered, what was written is a front of what the bytes read show by themselves.
     ensures front_of_read { IfSome (S.held source.old) (λ bytes. IsFrontOfRead bytes (S.held source.new)
         (K.taken out.old) (K.taken out.new)) }
-    // The same where some of the bytes left are read too.
+    // Whatever front of the bytes left is read too, what was written is a front of what the bytes read then show.
     ensures front_of_more { IfSome (S.held source.old) (λ bytes. IsFrontOfMore bytes (S.held source.new)
         (K.taken out.old) (K.taken out.new)) }
     ensures whole { IfDone result (IsAtEnd (S.held source.new)) }

@@ -1,0 +1,28 @@
+-- What may be written of bytes, where some of those left are read too, computed on a small case.
+use Rattle.std.proofs.Common.{◌≡◌, ◌∙◌, ℕ, List, [], ◌∷◌, ◌++◌, Option, Some, sym, ap, subst}
+use Rattle.dirac_common.specs.declared.faults.Fault.{Fault}
+use Rattle.dirac_units.specs.Cut.{IsCut, UnitText, first_unit_place}
+use Rattle.dirac_content.specs.Raw.{raws}
+use Rattle.dirac_content.specs.Shown.{IsShown, Outcome, outcome}
+use Rattle.dirac_content.specs.StreamState.{stream_begun}
+use Rattle.dirac_decode.specs.Decoded.{IsFrontOfMore}
+
+-- no bytes show no picture
+none_shown : (o : Outcome) (units : List UnitText) (end : Option Fault) → IsCut first_unit_place [] units end → outcome stream_begun first_unit_place units end ≡ o → o.shown ≡ []
+unfolding outcome
+none_shown o [] end cut is = sym (ap (λ (x : Outcome). x.shown) is)
+none_shown o (unit ∷ units) end cut is = absurd cc
+
+-- so a sink that took a byte of them is refused
+taker_refused : IsFrontOfMore [] (Some []) (Some []) (Some (7 ∷ [])) → ⊥
+taker_refused m =
+    let left : m.rest ≡ [] = let is : Some [] ≡ Some m.rest = m.holds in cc in
+    let front = m.shows [] [] left in
+    let read : m.read ++ [] ≡ [] = sym (m.parts ∙ ap (λ (l : List ℕ). m.read ++ l) left) in
+    let shows : IsShown [] front.0 = subst (λ (l : List ℕ). IsShown l front.0) read front.1 in
+    let shown = none_shown front.0 shows.units shows.end shows.cut shows.same in
+    none_taken front.2.0 front.2.1 (ap raws (sym shown) ∙ front.2.2) front.2.3
+  where
+    none_taken : (front rest : List ℕ) → [] ≡ front ++ rest → (7 ∷ []) ≡ front → ⊥
+    none_taken [] rest parts took = absurd cc
+    none_taken (x ∷ front) rest parts took = absurd cc
