@@ -46,7 +46,7 @@ fn decoded_by<R: Threads + Sync, S: Source, K: Sink, G: RowGate>(
 }
 
 /// Decodes a stream to raw pictures, up to the first fault. At its end or at its fault it writes the tally
-/// to the side. Where a number of workers is given, they rebuild each picture together.
+/// to the side. Where a number of workers is given, it is decoded by them, as `decode_rows` does.
 pub fn decode<R: Threads + Sync, S: Source, K: Sink, N: Sink, G: RowGate>(
     rt: &R,
     alloc: Global,
