@@ -46,15 +46,6 @@ passes_same old new same there finished = record {
   finished = λ e. (finished e, refl);
 }
 
--- bytes were sent
-pub passes_sent : (old new : Pushed) (bytes : List ℕ) → new.decoder ≡ old.decoder → new.there ≡ old.there ++ bytes → old.is_finished ≡ false → PushPasses old new bytes []
-passes_sent old new bytes same there unfinished = record {
-  leads = λ more may o comes.
-      subst (λ (d : Decoding). Comes d (Some (old.there ++ (bytes ++ more))) o) same
-      (subst (λ (xs : List ℕ). Comes new.decoder (Some xs) o) (ap (λ (xs : List ℕ). xs ++ more) there ∙ append_assoc old.there bytes more) comes);
-  finished = λ e. cc;
-}
-
 -- a due picture left
 pub passes_due : (old new : Pushed) (p : Picture) → DueGives (Some p) old.decoder new.decoder → new.there ≡ old.there → new.is_finished ≡ old.is_finished → PushPasses old new [] (p ∷ [])
 passes_due old new p due there finished = record {
