@@ -8,7 +8,7 @@ use Rattle.dirac_common.specs.declared.faults.Fault.{Fault}
 use Rattle.dirac_common.specs.declared.faults.Refusal.{Refusal}
 use Rattle.dirac_units.specs.declared.unit.Unit.{Unit as TheUnit}
 use Rattle.dirac_units.specs.declared.unit_place.UnitPlace.{UnitPlace}
-use Rattle.dirac_units.specs.Cut.{EachHasACut, front_of, first_unit_place}
+use Rattle.dirac_units.specs.Cut.{EachHasACut, front_of}
 use Rattle.dirac_units.specs.Info.{fields_are_read}
 use Rattle.dirac_units.specs.Progress.{Ends, GivesUnit, IsFirstUnit, CuttingProgress}
 use Rattle.dirac_sequence_header.specs.declared.sequence.Sequence.{Sequence}
@@ -17,7 +17,7 @@ use Rattle.dirac_picture.specs.declared.coded.CodedPicture.{CodedPicture}
 use Rattle.dirac_picture.specs.Grammar.{picture_read}
 use Rattle.dirac_content.specs.declared.opened.Opened.{Opened}
 use Rattle.dirac_content.specs.Content.{rebuilt}
-use Rattle.dirac_content.specs.StreamState.{StreamState, StreamStep, stream_begun, content, ended, header_step, is_same, shown_or_refused, opening, passed, picture_step, staying, unit_step}
+use Rattle.dirac_content.specs.StreamState.{StreamState, StreamStep, content, ended, header_step, is_same, shown_or_refused, opening, passed, picture_step, staying, unit_step}
 use Rattle.dirac_content.specs.Shown.{IsShown, Outcome, Shows, ends_with, with_front}
 use Rattle.dirac_content.proofs.Passing.{fault_of, told_end, told_refusal, told_unit}
 use Rattle.dirac_edit.specs.Course.{content_checked, listed_by, picture_checked, state_of, unit_checked}
@@ -121,13 +121,6 @@ pub record Reaches (bytes : List ℕ) (unit_place : UnitPlace) (rest : List ℕ)
   pub state : StreamState
   pub alike : IsAlike state course
   pub ends : (o : Outcome) → Shows state unit_place rest o → EndsWith bytes o.end
-
-pub reached_first : (bytes : List ℕ) → Reaches bytes first_unit_place bytes stream_begun
-reached_first bytes = record {
-  state = stream_begun;
-  alike = record { opened = refl; listed = refl };
-  ends = λ o shows. (o, shows, refl);
-}
 
 -- where nothing was taken beyond the units given
 front_told : (ahead ahead' : List ℕ) (held held' : Option (List ℕ)) (unit : TheUnit) (unit_place : UnitPlace) → ahead ≡ [] → ahead' ≡ [] → IfSome (prepend_known ahead held) (λ bytes. IsFirstUnit true unit unit_place bytes (prepend_known ahead' held'))

@@ -1,6 +1,6 @@
 -- The bytes of sequences and their pictures, piece by piece.
 use Rattle.std.proofs.Common.{◌≡◌, ◌∙◌, ℕ, ◌+◌, ◌<◌, ◌≤◌, ◌==◌, Bool, false, List, [], ◌++◌, length, drop, get_or, nat_lt, ap, ap₂, arith, sym}
-use Rattle.std.proofs.lemmas.Bool.{cond-false, cond-true, eqb-false, le-ltb, lt-ltb}
+use Rattle.std.proofs.lemmas.Bool.{cond-true, eqb-false, lt-ltb}
 use Rattle.std.proofs.lemmas.List.{drop_all}
 use Rattle.dirac_encode_laws.specs.Stream.{end_unit, unit}
 use Rattle.dirac_edit_laws.specs.Texts.{PictureText, SequenceText, with_pictures}
@@ -29,13 +29,7 @@ no_picture_left pictures i previous past = ap (pictures_bytes previous) (drop_al
 pub has_pictures : (pictures pictures' : List PictureText) (is_empty : Bool) → pictures' ≡ pictures → is_empty ≡ (length pictures' == 0) → is_empty ≡ false → 0 < length pictures
 has_pictures pictures pictures' is_empty same test filled = omega (arith, eqb-false (length pictures') 0 (sym test ∙ filled), ap length same)
 
--- sequences from a place on: one without pictures, one with pictures, none
-pub empty_left : (sequences : List SequenceText) (i : ℕ) (s : SequenceText) (previous : ℕ) → i < length sequences → s ≡ get_or sequences i s → length s.pictures ≡ 0
-    → sequences_bytes previous (with_pictures (drop i sequences)) ≡ sequences_bytes previous (with_pictures (drop (i + 1) sequences))
-empty_left sequences i s previous inside is none =
-    ap (λ ss. sequences_bytes previous (with_pictures ss)) (left_at sequences i s inside is)
-    ∙ ap (sequences_bytes previous) (cond-false (nat_lt 0 (length s.pictures)) _ _ (le-ltb 0 (length s.pictures) (omega (arith, none))))
-
+-- sequences from a place on: one with pictures, none
 pub sequence_left : (sequences : List SequenceText) (i : ℕ) (s : SequenceText) (previous : ℕ) → i < length sequences → s ≡ get_or sequences i s → 0 < length s.pictures
     → sequences_bytes previous (with_pictures (drop i sequences)) ≡ sequence_bytes previous s ++ sequences_bytes 13 (with_pictures (drop (i + 1) sequences))
 unfolding sequences_bytes

@@ -25,10 +25,7 @@ piece_written all piece rest taken taken' taken'' so more = record {
 pub left_as : (all rest rest' : List ℕ) (taken taken' : Option (List ℕ)) → IsWritten all rest taken taken' → rest ≡ rest' → IsWritten all rest' taken taken'
 left_as all rest rest' taken taken' so same = subst (λ (r : List ℕ). IsWritten all r taken taken') same so
 
--- no more, a front of a piece more, and all
-pub front_written : (all rest : List ℕ) (taken taken' : Option (List ℕ)) → IsWritten all rest taken taken' → AppendsFront taken taken' all
-front_written all rest taken taken' so = (so.front, rest, so.split, so.grown)
-
+-- a front of a piece more, and all
 pub part_written : (all piece rest : List ℕ) (taken taken' taken'' : Option (List ℕ)) → IsWritten all (piece ++ rest) taken taken' → AppendsFront taken' taken'' piece → AppendsFront taken taken'' all
 part_written all piece rest taken taken' taken'' so part = (
   so.front ++ part.0,
