@@ -1,12 +1,11 @@
 -- Some groups of a plan of frames or of fields: how many pictures they are, their numbers, their intra pictures, and what they refer to.
-use Rattle.std.proofs.Common.{◌≡◌, ℕ, zero, suc, ◌+◌, ◌-◌, ◌*◌, ◌/◌, ◌<◌, ◌≤◌, ◌==◌, ◌&&◌, min, nat_le, nat_lt, if◌then◌else◌, Bool, true, false, List, [], ◌∷◌, ◌++◌, length, Option, None, Some, option_map, take, drop, eq-eqb, refl, sym, ◌∙◌, ap, subst, arith, sum_by, inl, inr, length-append, div-add-mod', mul-le-mul_right}
+use Rattle.std.proofs.Common.{◌≡◌, ℕ, zero, suc, ◌+◌, ◌-◌, ◌*◌, ◌/◌, ◌<◌, ◌≤◌, ◌==◌, ◌&&◌, min, nat_le, nat_lt, if◌then◌else◌, Bool, true, false, List, [], ◌∷◌, ◌++◌, length, Option, None, Some, option_map, refl, sym, ◌∙◌, ap, subst, arith, sum_by, inl, inr, length-append, div-add-mod', mul-le-mul_right}
 use Rattle.std.specs.Prelude.{IfSome}
 use Rattle.std.specs.List.{AllByRecursion, flat_map, range_with_len}
 use Rattle.std.proofs.lemmas.Bool.{cases_lt, le-ltb, lt-ltb, ltb-true}
 use Rattle.std.proofs.lemmas.Grind.{flat_map-append}
 use Rattle.std.proofs.lemmas.List.Sums.{sum_by-cons}
 use Rattle.std.proofs.lemmas.Nat.{mod_below}
-use Rattle.dirac_common.specs.declared.picture.Picture.{Picture}
 use Rattle.dirac_types.specs.declared.settings.Settings.{Settings}
 use Rattle.dirac_common.specs.declared.codes.TheConstants.{INTRA_REFERENCE}
 use Rattle.dirac_plan.specs.declared.planned.Planned.{Planned}
@@ -17,7 +16,7 @@ use Rattle.dirac_plan.proofs.Lists.{range_split}
 use Rattle.dirac_plan.proofs.Numbers.{either, of_number, sum_groups}
 use Rattle.dirac_plan_laws.proofs.Each.{each_append, each_joined, each_mapped}
 use Rattle.dirac_plan_laws.proofs.Fields.{fields_weight, first_number, second_number}
-use Rattle.dirac_edit_laws.specs.Encoded.{groups_in, of_groups}
+use Rattle.dirac_edit_laws.specs.Encoded.{groups_in}
 use Rattle.dirac_edit_laws.proofs.Grouping.{BeginIntra, IsInter, LiesIn, groups_at, groups_begin, groups_lie, length_groups, planned_points, points_append, points_groups, points_inter, steps_inter}
 
 -- by whether pictures are frames: how many pictures a group has, how many frames n pictures are, and m groups of their plan from group i on
@@ -316,21 +315,3 @@ from_by false s n i m =
 -- they need no picture of a group before them
 pub part_from : (s : Settings) (n i m : ℕ) → AllByRecursion (IsFrom (i * group_pictures s)) (part_at s n i m)
 part_from s n i m = from_by (s.fields == 0) s n i m
-
--- ---- frames
-
--- where pictures are frames, groups are of pictures
-pub record AreFrames (t : Settings) (pictures : List Picture) : Type 0 where
-  pub count : groups_in t (length pictures) ≡ group_count t (length pictures)
-  pub part : (a b : ℕ) → of_groups t a b pictures ≡ take ((b - a) * t.gop) (drop (a * t.gop) pictures)
-
-pub are_frames : (t : Settings) (pictures : List Picture) → t.fields ≡ 0 → AreFrames t pictures
-are_frames t pictures none =
-    let n = length pictures in
-    let is = eq-eqb t.fields 0 none in
-    record {
-      count = ap (λ (f : Bool). group_count t (frames_by f n)) is;
-      part = λ a b.
-          ap (λ (f : Bool). take ((b - a) * size_by f t) (drop (a * size_by f t) pictures)) is
-          ∙ ap (λ g. take ((b - a) * g) (drop (a * g) pictures)) (sym (one_time t.gop));
-    }

@@ -34,10 +34,6 @@ none_filtered test (q ∷ list) n none =
       | false ↦ later
     ]
 
-none_dropped : (list : List Picture) (n : ℕ) → listed list n ≡ None → listed (drop 1 list) n ≡ None
-none_dropped [] n none = none
-none_dropped (q ∷ list) n none = none_rest q list n none
-
 -- the number that was taken out
 none_without : (n : ℕ) (list : List Picture) → listed (without n list) n ≡ None
 none_without n [] = refl
