@@ -18,7 +18,7 @@ ghost use Rattle.dirac_encode_progress.specs.Going.{so_far};
 ghost use Rattle.dirac_encode_progress.specs.PictureCoding.{CodesUnder};
 
 use crate::coder::Coder;
-use crate::planned::{put_lot, put_planned};
+use crate::planned::put_planned;
 use crate::progress::Progress;
 use crate::rest::put_rest;
 use dirac_common::{NoMemory, Picture};
@@ -120,7 +120,7 @@ pub fn put_pictures<
         match fill(source, bytes) {
             // What waits only for others of its lot is due all the same.
             Filled::Failed => {
-                if let Err(answer) = put_planned(coder, out, side, planner, false, coding) {
+                if let Err(answer) = put_planned(coder, out, side, planner, false, 0, coding) {
                     return answer;
                 }
                 return Encoded::ReadFault;
@@ -137,7 +137,7 @@ pub fn put_pictures<
         let Ok(()) = push_raw(coder, planner, bytes) else {
             return Encoded::NoMemory;
         };
-        if let Err(answer) = put_lot(coder, out, side, planner, coding) {
+        if let Err(answer) = put_planned(coder, out, side, planner, false, coder.lot, coding) {
             return answer;
         }
     }

@@ -20,7 +20,8 @@ use dirac_plan::{Planned, Planner};
 use dirac_plan_laws::plans_can_be_coded;
 use dirac_refs::RefBuffer;
 
-/// Codes all pictures that can be coded by now; where the pictures have ended, all that are left.
+/// Codes all pictures that can be coded by now; where the pictures have ended, all that are left. Where fewer than
+/// `least` wait and the next one will be accepted, none is coded.
 pub(crate) fn put_planned<
     F: Fn(&Planned, &Picture, &RefBuffer, &Planner) -> Result<Coded, NoMemory>,
     K: Sink,
@@ -31,6 +32,7 @@ pub(crate) fn put_planned<
     side: &mut N,
     planner: &mut Planner,
     ended: bool,
+    least: usize,
     coding: &mut Progress,
 ) -> Result<(), Encoded>
     requires codes { CodesUnder (rule_of coder.now.budget) coder.now.settings.now (F.pre coder.now.code.now)
@@ -39,14 +41,15 @@ pub(crate) fn put_planned<
     requires header { coder.now.header.now ≡ sequence_payload coder.now.settings.now }
     requires settings { planner.old.settings ≡ coder.now.settings.now }
     requires ended { planner.old.ended ≡ true → ended ≡ true }
+    requires least { ended ≡ true → least ≡ 0 }
     requires lists { PlanIsListed coder.now.settings.now ended planner.old (so_far coding.old) }
     ensures lists { OnOk result (PlanIsListed coder.now.settings.now ended planner.new (so_far coding.new)) }
     ensures led { OnOk result (LeadsOn (rule_of coder.now.budget) coder.now.settings.now ended planner.old planner.new
         (so_far coding.old) (so_far coding.new)
         (K.taken out.old) (K.taken out.new) (N.taken side.old) (N.taken side.new)) }
-    // No other picture can be coded by now. Once the pictures have ended, all that were accepted are coded; else the
-    // next one will be accepted.
-    ensures none_due { OnOk result (gives_none planner.new ended ≡ true) }
+    // Where none waits for others, no other picture can be coded by now. Once the pictures have ended, all that were
+    // accepted are coded; else the next one will be accepted.
+    ensures none_due { OnOk result (least ≡ 0 → gives_none planner.new ended ≡ true) }
     ensures all_given { OnOk result (ended ≡ true → planner.new.given ≡ planner.new.accepted) }
     ensures opened { OnOk result (ended ≡ false → is_closed planner.new ≡ false) }
     ensures counts { OnOk result (planner.new.accepted ≡ planner.new.given + length planner.new.waiting) }
@@ -62,6 +65,10 @@ pub(crate) fn put_planned<
     ensures writes { K.faults out.old ≤ K.faults out.new }
     ensures sides { N.faults side.old ≤ N.faults side.new }
 {
+    let waiting = planner.waiting();
+    if waiting < least && !planner.is_closed() {
+        return Ok(());
+    }
     plans_can_be_coded();
     'planned: while let Some((planned, source)) = planner.take(ended) {
         if let Err(answer) = put_source(coder, out, side, &planned, &source, planner, coding) {
@@ -69,49 +76,4 @@ pub(crate) fn put_planned<
         }
     }
     Ok(())
-}
-
-/// Codes all pictures that can be coded by now, unless fewer wait than are coded together and the next one will be
-/// accepted.
-pub(crate) fn put_lot<
-    F: Fn(&Planned, &Picture, &RefBuffer, &Planner) -> Result<Coded, NoMemory>,
-    K: Sink,
-    N: Sink,
->(
-    coder: &Coder<F>,
-    out: &mut K,
-    side: &mut N,
-    planner: &mut Planner,
-    coding: &mut Progress,
-) -> Result<(), Encoded>
-    requires codes { CodesUnder (rule_of coder.now.budget) coder.now.settings.now (F.pre coder.now.code.now)
-        (F.post coder.now.code.now) }
-    requires accepted { IsAccepted coder.now.settings.now }
-    requires header { coder.now.header.now ≡ sequence_payload coder.now.settings.now }
-    requires settings { planner.old.settings ≡ coder.now.settings.now }
-    requires going { planner.old.ended ≡ false }
-    requires lists { PlanIsListed coder.now.settings.now false planner.old (so_far coding.old) }
-    ensures lists { OnOk result (PlanIsListed coder.now.settings.now false planner.new (so_far coding.new)) }
-    ensures led { OnOk result (LeadsOn (rule_of coder.now.budget) coder.now.settings.now false planner.old planner.new
-        (so_far coding.old) (so_far coding.new)
-        (K.taken out.old) (K.taken out.new) (N.taken side.old) (N.taken side.new)) }
-    ensures opened { OnOk result (is_closed planner.new ≡ false) }
-    ensures counts { OnOk result (planner.new.accepted ≡ planner.new.given + length planner.new.waiting) }
-    ensures waiting_fit { OnOk result (length planner.new.waiting ≤ waiting_places planner.new.settings) }
-    ensures told { OnOk result (planner.new.ended ≡ false) }
-    ensures accepted { planner.new.accepted ≡ planner.old.accepted }
-    ensures settings { planner.new.settings ≡ coder.now.settings.now }
-    ensures stopped { IfErr result (λ answer. Stops (rule_of coder.now.budget) coder.now.settings.now false planner.old
-        (so_far coding.old) answer (K.taken out.old) (K.taken out.new) (N.taken side.old) (N.taken side.new)) }
-    ensures stops { IfErr result StopsCoding }
-    ensures write_fault { result ≡ Err Encoded.WriteFault → Rose (K.faults out.old) (K.faults out.new) }
-    ensures side_fault { result ≡ Err Encoded.SideFault → Rose (N.faults side.old) (N.faults side.new) }
-    ensures writes { K.faults out.old ≤ K.faults out.new }
-    ensures sides { N.faults side.old ≤ N.faults side.new }
-{
-    let waiting = planner.waiting();
-    if waiting < coder.lot && !planner.is_closed() {
-        return Ok(());
-    }
-    put_planned(coder, out, side, planner, false, coding)
 }

@@ -47,7 +47,7 @@ pub(crate) fn put_rest<
     ensures writes { K.faults out.old ≤ K.faults out.new }
     ensures sides { N.faults side.old ≤ N.faults side.new }
 {
-    if let Err(answer) = put_planned(coder, out, side, planner, true, coding) {
+    if let Err(answer) = put_planned(coder, out, side, planner, true, 0, coding) {
         return answer;
     }
     if let Err(fault) = put_last(coder, out, side, coding) {

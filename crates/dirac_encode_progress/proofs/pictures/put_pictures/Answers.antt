@@ -176,23 +176,23 @@ returns-in_default-push_raw-clause-encoded g c =
     stops_here c.plans_can_be_coded.ensures (rule_of c.args.coder.now.budget) c.args.coder.now.settings.now (g.S.Source.held c.args.source.now) c.pictures.planner (so_far c.pictures.coding) (g.S.Source.held c.pictures.source) (g.K.Sink.taken c.args.out.now) (g.K.Sink.taken c.pictures.out)
     (g.N.Sink.taken c.args.side.now) (g.N.Sink.taken c.pictures.side) c.requires.accepted c.pictures.invariant.runs
 
-pub returns-in-Err-put_lot-clause-encoded : goal.returns-in-Err-put_lot-clause-encoded
-returns-in-Err-put_lot-clause-encoded g c =
+pub returns-in-Err-put_planned-clause-encoded : goal.returns-in-Err-put_planned-clause-encoded
+returns-in-Err-put_planned-clause-encoded g c =
     let f = rule_of c.args.coder.now.budget in
     let t = c.args.coder.now.settings.now in
     let first = g.S.Source.held c.args.source.now in
     let few : c.pictures.planner.accepted < t.pictures = omega (arith, c.accepted-number.ensures.value, c.if-number-settings.false, c.pictures.invariant.in_range) in
-    next_stops c.plans_can_be_coded.ensures f t first c.pictures.planner c.push_raw.new.planner (so_far c.pictures.coding) c.in-Err-put_lot.answer (g.S.Source.held c.pictures.source) (g.S.Source.held c.fill.new.source)
-    (g.K.Sink.taken c.args.out.now) (g.K.Sink.taken c.pictures.out) (g.K.Sink.taken c.put_lot.new.out) (g.N.Sink.taken c.args.side.now) (g.N.Sink.taken c.pictures.side) (g.N.Sink.taken c.put_lot.new.side)
-    c.fill.new.buf c.requires.accepted c.pictures.invariant.runs (c.in-Whole.ensures.whole refl) c.push_raw.ensures.below_256 (c.fill.ensures.size ∙ c.pictures.invariant.size) (raw_some t c.requires.accepted) few c.in-Ok.ensures.pushed c.in-Err-put_lot.ensures.stopped
+    next_stops c.plans_can_be_coded.ensures f t first c.pictures.planner c.push_raw.new.planner (so_far c.pictures.coding) c.in-Err-put_planned.answer (g.S.Source.held c.pictures.source) (g.S.Source.held c.fill.new.source)
+    (g.K.Sink.taken c.args.out.now) (g.K.Sink.taken c.pictures.out) (g.K.Sink.taken c.put_planned-in-pictures.new.out) (g.N.Sink.taken c.args.side.now) (g.N.Sink.taken c.pictures.side) (g.N.Sink.taken c.put_planned-in-pictures.new.side)
+    c.fill.new.buf c.requires.accepted c.pictures.invariant.runs (c.in-Whole.ensures.whole refl) c.push_raw.ensures.below_256 (c.fill.ensures.size ∙ c.pictures.invariant.size) (raw_some t c.requires.accepted) few c.in-Ok.ensures.pushed c.in-Err-put_planned.ensures.stopped
 
-pub returns-in-Err-put_lot-clause-recovered : goal.returns-in-Err-put_lot-clause-recovered
-returns-in-Err-put_lot-clause-recovered g c =
-    stopped_before_the_end (rule_of c.args.coder.now.budget) c.args.coder.now.settings.now (g.S.Source.held c.args.source.now) c.in-Err-put_lot.answer c.in-Err-put_lot.ensures.stops
+pub returns-in-Err-put_planned-clause-recovered : goal.returns-in-Err-put_planned-clause-recovered
+returns-in-Err-put_planned-clause-recovered g c =
+    stopped_before_the_end (rule_of c.args.coder.now.budget) c.args.coder.now.settings.now (g.S.Source.held c.args.source.now) c.in-Err-put_planned.answer c.in-Err-put_planned.ensures.stops
 
-pub returns-in-Err-put_lot-clause-partial : goal.returns-in-Err-put_lot-clause-partial
-returns-in-Err-put_lot-clause-partial g c =
-    λ n is. absurd (stop_no_part c.in-Err-put_lot.answer n c.in-Err-put_lot.ensures.stops is)
+pub returns-in-Err-put_planned-clause-partial : goal.returns-in-Err-put_planned-clause-partial
+returns-in-Err-put_planned-clause-partial g c =
+    λ n is. absurd (stop_no_part c.in-Err-put_planned.answer n c.in-Err-put_planned.ensures.stops is)
 
 pub pictures-preserved : goal.pictures-preserved
 pictures-preserved g c =
@@ -200,29 +200,29 @@ pictures-preserved g c =
     let t = c.args.coder.now.settings.now in
     let first = g.S.Source.held c.args.source.now in
     let few : c.pictures.planner.accepted < t.pictures = omega (arith, c.accepted-number.ensures.value, c.if-number-settings.false, c.pictures.invariant.in_range) in
-    let same = c.in_default-put_lot.ensures.accepted in
+    let same = c.in_default-put_planned.ensures.accepted in
     record {
-      runs = next_leads f t first c.pictures.planner c.push_raw.new.planner c.put_lot.new.planner (so_far c.pictures.coding) (so_far c.put_lot.new.coding) (g.S.Source.held c.pictures.source) (g.S.Source.held c.fill.new.source)
-          (g.K.Sink.taken c.args.out.now) (g.K.Sink.taken c.pictures.out) (g.K.Sink.taken c.put_lot.new.out) (g.N.Sink.taken c.args.side.now) (g.N.Sink.taken c.pictures.side) (g.N.Sink.taken c.put_lot.new.side)
-          c.fill.new.buf c.pictures.invariant.runs (c.in-Whole.ensures.whole refl) c.push_raw.ensures.below_256 (c.fill.ensures.size ∙ c.pictures.invariant.size) (raw_some t c.requires.accepted) few c.in-Ok.ensures.pushed c.in_default-put_lot.ensures.led same;
-      alone = alone_leads f t first c.pictures.planner c.push_raw.new.planner c.put_lot.new.planner (so_far c.pictures.coding) (so_far c.put_lot.new.coding) (g.S.Source.held c.pictures.source) (g.S.Source.held c.fill.new.source)
-          (g.K.Sink.taken c.args.out.now) (g.K.Sink.taken c.pictures.out) (g.K.Sink.taken c.put_lot.new.out) (g.N.Sink.taken c.args.side.now) (g.N.Sink.taken c.pictures.side) (g.N.Sink.taken c.put_lot.new.side)
-          c.fill.new.buf c.pictures.invariant.alone (c.in-Whole.ensures.whole refl) c.push_raw.ensures.below_256 (c.fill.ensures.size ∙ c.pictures.invariant.size) (raw_some t c.requires.accepted) few c.in-Ok.ensures.pushed c.in_default-put_lot.ensures.led same;
-      lists = c.in_default-put_lot.ensures.lists;
-      settings = c.in_default-put_lot.ensures.settings;
-      going = c.in_default-put_lot.ensures.told;
-      opened = c.in_default-put_lot.ensures.opened;
-      counts = c.in_default-put_lot.ensures.counts;
-      fit = c.in_default-put_lot.ensures.waiting_fit;
+      runs = next_leads f t first c.pictures.planner c.push_raw.new.planner c.put_planned-in-pictures.new.planner (so_far c.pictures.coding) (so_far c.put_planned-in-pictures.new.coding) (g.S.Source.held c.pictures.source) (g.S.Source.held c.fill.new.source)
+          (g.K.Sink.taken c.args.out.now) (g.K.Sink.taken c.pictures.out) (g.K.Sink.taken c.put_planned-in-pictures.new.out) (g.N.Sink.taken c.args.side.now) (g.N.Sink.taken c.pictures.side) (g.N.Sink.taken c.put_planned-in-pictures.new.side)
+          c.fill.new.buf c.pictures.invariant.runs (c.in-Whole.ensures.whole refl) c.push_raw.ensures.below_256 (c.fill.ensures.size ∙ c.pictures.invariant.size) (raw_some t c.requires.accepted) few c.in-Ok.ensures.pushed c.in_default-put_planned.ensures.led same;
+      alone = alone_leads f t first c.pictures.planner c.push_raw.new.planner c.put_planned-in-pictures.new.planner (so_far c.pictures.coding) (so_far c.put_planned-in-pictures.new.coding) (g.S.Source.held c.pictures.source) (g.S.Source.held c.fill.new.source)
+          (g.K.Sink.taken c.args.out.now) (g.K.Sink.taken c.pictures.out) (g.K.Sink.taken c.put_planned-in-pictures.new.out) (g.N.Sink.taken c.args.side.now) (g.N.Sink.taken c.pictures.side) (g.N.Sink.taken c.put_planned-in-pictures.new.side)
+          c.fill.new.buf c.pictures.invariant.alone (c.in-Whole.ensures.whole refl) c.push_raw.ensures.below_256 (c.fill.ensures.size ∙ c.pictures.invariant.size) (raw_some t c.requires.accepted) few c.in-Ok.ensures.pushed c.in_default-put_planned.ensures.led same;
+      lists = c.in_default-put_planned.ensures.lists;
+      settings = c.in_default-put_planned.ensures.settings;
+      going = c.in_default-put_planned.ensures.told;
+      opened = c.in_default-put_planned.ensures.opened refl;
+      counts = c.in_default-put_planned.ensures.counts;
+      fit = c.in_default-put_planned.ensures.waiting_fit;
       in_range = omega (arith, few, same, ap (λ (p : Planning). p.accepted) c.in-Ok.ensures.pushed);
       size = c.fill.ensures.size ∙ c.pictures.invariant.size;
       reads = omega (arith, c.pictures.invariant.reads, c.fill.ensures.count);
-      writes = omega (arith, c.pictures.invariant.writes, c.put_lot.ensures.writes);
-      sides = omega (arith, c.pictures.invariant.sides, c.put_lot.ensures.sides);
+      writes = omega (arith, c.pictures.invariant.writes, c.put_planned-in-pictures.ensures.writes);
+      sides = omega (arith, c.pictures.invariant.sides, c.put_planned-in-pictures.ensures.sides);
     }
 
-pub put_lot-requires-clause-lists : goal.put_lot-requires-clause-lists
-put_lot-requires-clause-lists g c =
+pub put_planned-requires-in-pictures-clause-lists : goal.put_planned-requires-in-pictures-clause-lists
+put_planned-requires-in-pictures-clause-lists g c =
     lists_pushed c.args.coder.now.settings.now c.pictures.planner c.push_raw.new.planner (so_far c.pictures.coding) _ c.pictures.invariant.lists c.in-Ok.ensures.source c.in-Ok.ensures.pushed
     (omega (arith, c.accepted-number.ensures.value, c.if-number-settings.false, c.pictures.invariant.in_range, most_pictures c.args.coder.now.settings.now c.requires.accepted))
 
@@ -289,19 +289,19 @@ returns-in_default-push_raw-clause-front_of_read g c =
     stops_here c.plans_can_be_coded.ensures f t (Some bytes) c.pictures.planner (so_far c.pictures.coding) (Some part) (g.K.Sink.taken c.args.out.now) (g.K.Sink.taken c.pictures.out)
     (g.N.Sink.taken c.args.side.now) (g.N.Sink.taken c.pictures.side) c.requires.accepted runs)
 
-pub returns-in-Err-put_lot-clause-front_of_read : goal.returns-in-Err-put_lot-clause-front_of_read
-returns-in-Err-put_lot-clause-front_of_read g c =
+pub returns-in-Err-put_planned-clause-front_of_read : goal.returns-in-Err-put_planned-clause-front_of_read
+returns-in-Err-put_planned-clause-front_of_read g c =
     let f = rule_of c.args.coder.now.budget in
     let t = c.args.coder.now.settings.now in
     let part : List ℕ = c.fill.new.buf in
-    front_by f t (g.S.Source.held c.args.source.now) c.pictures.planner (so_far c.pictures.coding) c.in-Err-put_lot.answer (g.S.Source.held c.pictures.source) (g.S.Source.held c.fill.new.source)
-    (g.K.Sink.taken c.args.out.now) (g.K.Sink.taken c.pictures.out) (g.K.Sink.taken c.put_lot.new.out) (g.N.Sink.taken c.args.side.now) (g.N.Sink.taken c.pictures.side) (g.N.Sink.taken c.put_lot.new.side)
+    front_by f t (g.S.Source.held c.args.source.now) c.pictures.planner (so_far c.pictures.coding) c.in-Err-put_planned.answer (g.S.Source.held c.pictures.source) (g.S.Source.held c.fill.new.source)
+    (g.K.Sink.taken c.args.out.now) (g.K.Sink.taken c.pictures.out) (g.K.Sink.taken c.put_planned-in-pictures.new.out) (g.N.Sink.taken c.args.side.now) (g.N.Sink.taken c.pictures.side) (g.N.Sink.taken c.put_planned-in-pictures.new.side)
     part c.pictures.invariant.alone (c.in-Whole.ensures.whole refl)
     (λ bytes runs.
     let few : c.pictures.planner.accepted < t.pictures = omega (arith, c.accepted-number.ensures.value, c.if-number-settings.false, c.pictures.invariant.in_range) in
-    next_stops c.plans_can_be_coded.ensures f t (Some bytes) c.pictures.planner c.push_raw.new.planner (so_far c.pictures.coding) c.in-Err-put_lot.answer (Some part) (Some [])
-    (g.K.Sink.taken c.args.out.now) (g.K.Sink.taken c.pictures.out) (g.K.Sink.taken c.put_lot.new.out) (g.N.Sink.taken c.args.side.now) (g.N.Sink.taken c.pictures.side) (g.N.Sink.taken c.put_lot.new.side)
-    c.fill.new.buf c.requires.accepted runs (sym (append-nil part)) c.push_raw.ensures.below_256 (c.fill.ensures.size ∙ c.pictures.invariant.size) (raw_some t c.requires.accepted) few c.in-Ok.ensures.pushed c.in-Err-put_lot.ensures.stopped)
+    next_stops c.plans_can_be_coded.ensures f t (Some bytes) c.pictures.planner c.push_raw.new.planner (so_far c.pictures.coding) c.in-Err-put_planned.answer (Some part) (Some [])
+    (g.K.Sink.taken c.args.out.now) (g.K.Sink.taken c.pictures.out) (g.K.Sink.taken c.put_planned-in-pictures.new.out) (g.N.Sink.taken c.args.side.now) (g.N.Sink.taken c.pictures.side) (g.N.Sink.taken c.put_planned-in-pictures.new.side)
+    c.fill.new.buf c.requires.accepted runs (sym (append-nil part)) c.push_raw.ensures.below_256 (c.fill.ensures.size ∙ c.pictures.invariant.size) (raw_some t c.requires.accepted) few c.in-Ok.ensures.pushed c.in-Err-put_planned.ensures.stopped)
 
 pub returns-in-Failed-clause-due : goal.returns-in-Failed-clause-due
 returns-in-Failed-clause-due g c = λ failed.
@@ -315,4 +315,4 @@ returns-in-Failed-clause-due g c = λ failed.
     due_by f t first c.put_planned.new.planner (so_far c.put_planned.new.coding) (g.S.Source.held c.pictures.source) (g.S.Source.held c.fill.new.source) (g.K.Sink.taken c.args.out.now) (g.K.Sink.taken c.put_planned.new.out) (g.N.Sink.taken c.args.side.now) (g.N.Sink.taken c.put_planned.new.side)
     (take front.0 c.fill.new.buf) alone front.2
     (omega (arith, few, length-take-le front.0 c.fill.new.buf (omega (arith, few)), c.fill.ensures.size, c.pictures.invariant.size))
-    (omega (arith, c.in_default.ensures.accepted, c.pictures.invariant.in_range)) c.in_default.ensures.counts c.in_default.ensures.waiting_fit c.in_default.ensures.settings c.in_default.ensures.none_due
+    (omega (arith, c.in_default.ensures.accepted, c.pictures.invariant.in_range)) c.in_default.ensures.counts c.in_default.ensures.waiting_fit c.in_default.ensures.settings (c.in_default.ensures.none_due refl)

@@ -36,7 +36,7 @@ returns-clause-led g c bytes out0 side0 start =
     c.in_default.ensures.in_vain (c.planned.invariant.led bytes out0 side0 start)
 
 pub returns-clause-none_due : goal.returns-clause-none_due
-returns-clause-none_due g c =
+returns-clause-none_due g c = λ none.
     subst (λ (p : Planning). gives_none p c.args.ended ≡ true) (sym c.in_default.ensures.in_vain) (c.in_default.ensures.none.0 refl)
 
 pub returns-clause-lists : goal.returns-clause-lists
