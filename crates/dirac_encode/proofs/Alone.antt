@@ -1,5 +1,5 @@
 -- An intra picture is coded alike, whatever pictures are listed.
-use Rattle.std.proofs.Common.{◌≡◌, ℕ, Bool, true, false, if◌then◌else◌, List, [], Option, None, Some, refl, sym, ap, ◌∙◌, subst}
+use Rattle.std.proofs.Common.{◌≡◌, ℕ, Bool, true, false, if◌then◌else◌, List, [], Option, None, Some, Result, Ok, Err, IfOk, refl, sym, ap, ◌∙◌, subst}
 use Rattle.dirac_common.specs.declared.picture.Picture.{Picture}
 use Rattle.dirac_types.specs.declared.settings.Settings.{Settings}
 use Rattle.dirac_picture.specs.Grammar.{is_intra}
@@ -8,8 +8,9 @@ use Rattle.dirac_plan.specs.declared.planned.Planned.{Planned}
 use Rattle.dirac_motion.specs.Chosen.{chosen}
 use Rattle.dirac_encode_laws.specs.Coded.{coded_with, motion_with}
 use Rattle.dirac_encode_laws.specs.declared.coded.Coded.{Coded}
-use Rattle.dirac_encode_laws.specs.Coding.{Job, Made, made, made_from, made_under}
+use Rattle.dirac_encode_laws.specs.Coding.{IndexRule, Job, Made, made, made_from, made_under}
 use Rattle.dirac_encode_laws.specs.Fit.{rule_of}
+use Rattle.dirac_encode_progress.specs.PictureCoding.{IsCodedUnder}
 use Rattle.dirac_encode.specs.Ahead.{IsCodedAlone}
 
 none_if : (b : Bool) (m : CodedMotion) → b ≡ true → (if b then None else Some m) ≡ None
@@ -34,14 +35,14 @@ pub made_alone : (t : Settings) (refs others : List Picture) (j : Job) → is_in
 made_alone t refs others j intra = made_is t refs j intra ∙ intra_same t refs others j ∙ sym (made_is t others j intra)
 
 -- what was coded alone is what the rule gives where there is no budget, whatever pictures are listed
-pub payload_alone : (budget : Option ℕ) (t : Settings) (refs : List Picture) (p : Planned) (x : Picture) (c : Coded) → budget ≡ None → IsCodedAlone t p x c → c.payload.items ≡ (made_under (rule_of budget) t refs (record { planned = p; source = x })).payload
-payload_alone budget t refs p x c none is =
-    let j : Job = record { planned = p; source = x } in
-    subst (λ (o : Option ℕ). c.payload.items ≡ (made_under (rule_of o) t refs j).payload) (sym none)
-    (is.payload ∙ ap (λ (m : Made). m.payload) (made_alone t [] refs j is.intra))
+pub coded_alone : (budget : Option ℕ) (t : Settings) (refs : List Picture) (p : Planned) (x : Picture) (c : Coded) → budget ≡ None → IsCodedAlone t p x c → IsCodedUnder (rule_of budget) t refs p x c
+coded_alone budget t refs p x c none is =
+    let same = made_alone t [] refs (record { planned = p; source = x }) is.intra in
+    subst (λ (o : Option ℕ). IsCodedUnder (rule_of o) t refs p x c) (sym none)
+    (record { payload = is.payload ∙ ap (λ (m : Made). m.payload) same; shown = is.shown ∙ ap (λ (m : Made). m.shown) same })
 
-pub shown_alone : (budget : Option ℕ) (t : Settings) (refs : List Picture) (p : Planned) (x : Picture) (c : Coded) → budget ≡ None → IsCodedAlone t p x c → c.shown ≡ (made_under (rule_of budget) t refs (record { planned = p; source = x })).shown
-shown_alone budget t refs p x c none is =
-    let j : Job = record { planned = p; source = x } in
-    subst (λ (o : Option ℕ). c.shown ≡ (made_under (rule_of o) t refs j).shown) (sym none)
-    (is.shown ∙ ap (λ (m : Made). m.shown) (made_alone t [] refs j is.intra))
+-- an answer whose payload and picture are those under a rule
+pub coded_under : {E : Type 0} (f : IndexRule) (t : Settings) (refs : List Picture) (p : Planned) (x : Picture) (r : Result Coded E) → IfOk r (λ c. c.payload.items ≡ (made_under f t refs (record { planned = p; source = x })).payload)
+    → IfOk r (λ c. c.shown ≡ (made_under f t refs (record { planned = p; source = x })).shown) → IfOk r (IsCodedUnder f t refs p x)
+coded_under f t refs p x (Ok c) payload shown = record { payload = payload; shown = shown }
+coded_under f t refs p x (Err e) payload shown = tt

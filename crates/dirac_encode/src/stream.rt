@@ -6,7 +6,7 @@ ghost use Rattle.std.specs.Thread.{IsSync};
 ghost use Rattle.dirac_io.specs.Faults.{Rose};
 ghost use Rattle.dirac_types.specs.Settings.{IsAccepted};
 ghost use Rattle.dirac_encode_laws.specs.Alike.{AreShownAlike};
-ghost use Rattle.dirac_encode_laws.specs.Coding.{made_under, own_index};
+ghost use Rattle.dirac_encode_laws.specs.Coding.{own_index};
 ghost use Rattle.dirac_encode_laws.specs.Encoding.{AnswersEncodedStream, EncodesToTheEnd, IsRecovered};
 ghost use Rattle.dirac_encode_laws.specs.Encoding.{IsRecoveredUnder, encoding};
 ghost use Rattle.dirac_encode_laws.specs.Encoding.{encoding_under};
@@ -106,12 +106,8 @@ fn code_picture_by<R: Threads + Sync, G: RowGate>(
     refs: &RefBuffer,
 ) -> Result<Coded, NoMemory>
     requires { IsReadyToCode coder.now.settings.now refs.now planned.now source.now }
-    ensures payload { IfOk result (λ c. c.payload.items
-        ≡ (made_under (rule_of coder.now.budget) coder.now.settings.now refs.now
-        (record { planned = planned.now; source = source.now })).payload) }
-    ensures shown { IfOk result (λ c. c.shown
-        ≡ (made_under (rule_of coder.now.budget) coder.now.settings.now refs.now
-        (record { planned = planned.now; source = source.now })).shown) }
+    ensures { IfOk result (IsCodedUnder (rule_of coder.now.budget) coder.now.settings.now refs.now planned.now
+        source.now) }
 {
     let (rt, alloc, settings, gate) = (coder.rt, coder.alloc, coder.settings, coder.gate);
     match coder.budget {
@@ -147,12 +143,8 @@ fn code_picture_or_lot<R: Threads + Sync, G: RowGate>(
 ) -> Result<Coded, NoMemory>
     requires ready { IsReadyToCode coder.now.settings.now refs.now planned.now source.now }
     requires behind { AreReadyBehind coder.now.settings.now behind.now }
-    ensures payload { IfOk result (λ c. c.payload.items
-        ≡ (made_under (rule_of coder.now.budget) coder.now.settings.now refs.now
-        (record { planned = planned.now; source = source.now })).payload) }
-    ensures shown { IfOk result (λ c. c.shown
-        ≡ (made_under (rule_of coder.now.budget) coder.now.settings.now refs.now
-        (record { planned = planned.now; source = source.now })).shown) }
+    ensures { IfOk result (IsCodedUnder (rule_of coder.now.budget) coder.now.settings.now refs.now planned.now
+        source.now) }
 {
     let (rt, alloc, settings) = (coder.rt, coder.alloc, coder.settings);
     if lot_by(coder) > 1 {
