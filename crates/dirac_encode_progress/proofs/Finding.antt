@@ -131,8 +131,8 @@ lists_first t p c accepted given count refs waiting = record {
   in_range = omega (arith, accepted);
 }
 
-pub lists_last : (t : Settings) (p : Planning) (c : Progress) → PlanIsListed t false p c → PlanIsListed t true p c
-lists_last t p c l = record {
+pub lists_last : (t : Settings) (ended : Bool) (p : Planning) (c : Progress) → PlanIsListed t false p c → PlanIsListed t ended p c
+lists_last t ended p c l = record {
   qs = l.qs;
   shown = l.shown;
   begins = λ m behind few last. l.begins m behind few (λ e. absurd cc);

@@ -1,5 +1,5 @@
 -- What was written is what the raw bytes read ask for, whatever follows them.
-use Rattle.std.proofs.Common.{◌≡◌, ◌∙◌, ℕ, ◌+◌, ◌-◌, ◌*◌, ◌==◌, ◌<◌, ◌≤◌, List, [], ◌++◌, length, take, drop, Option, None, Some, refl, sym, ap, subst, arith, append_assoc, append-nil, true, false}
+use Rattle.std.proofs.Common.{◌≡◌, ◌∙◌, ℕ, ◌+◌, ◌-◌, ◌*◌, ◌==◌, ◌<◌, ◌≤◌, Bool, List, [], ◌++◌, length, take, drop, Option, None, Some, refl, sym, ap, subst, arith, append_assoc, append-nil, true, false}
 use Rattle.std.proofs.lemmas.List.{take_at}
 use Rattle.std.specs.Prelude.{IfSome, ◌||◌}
 use Rattle.std.specs.Io.KnownBytes.{Appends, Consumes}
@@ -62,15 +62,15 @@ alone_leads f t (Some bytes) p q p' c c' held held' out0 out out' side0 side sid
     }
 
 -- what waits is coded, and nothing is read
-pub alone_waits : (f : IndexRule) (t : Settings) (first : Option (List ℕ)) (p p' : Planning) (c c' : Progress) (held out0 out out' side0 side side' : Option (List ℕ)) → IfSome first (λ bytes. Alone f t bytes p c held out0 out side0 side) → LeadsOn f t false p p' c c' out out' side side' → p'.accepted ≡ p.accepted
-    → IfSome first (λ bytes. Alone f t bytes p' c' held out0 out' side0 side')
-alone_waits f t None p p' c c' held out0 out out' side0 side side' a led same = tt
-alone_waits f t (Some bytes) p p' c c' held out0 out out' side0 side side' a led same = record {
+pub alone_waits : (f : IndexRule) (t : Settings) (full : Bool) (first : Option (List ℕ)) (p p' : Planning) (c c' : Progress) (held out0 out out' side0 side side' : Option (List ℕ)) → (full ≡ true → p.accepted ≡ t.pictures) → IfSome first (λ bytes. Alone f t bytes p c held out0 out side0 side)
+    → LeadsOn f t full p p' c c' out out' side side' → p'.accepted ≡ p.accepted → IfSome first (λ bytes. Alone f t bytes p' c' held out0 out' side0 side')
+alone_waits f t full None p p' c c' held out0 out out' side0 side side' all a led same = tt
+alone_waits f t full (Some bytes) p p' c c' held out0 out out' side0 side side' all a led same = record {
   read = a.read;
   rest = a.rest;
   parts = a.parts;
   holds = a.holds;
-  runs = λ more. waits_leads f t (Some (a.read ++ more)) p p' c c' (Some more) out0 out out' side0 side side' (a.runs more) led same;
+  runs = λ more. waits_leads f t full (Some (a.read ++ more)) p p' c c' (Some more) out0 out out' side0 side side' all (a.runs more) led same;
 }
 
 all_is_front : (out out' : Option (List ℕ)) (text : List ℕ) → Appends out out' text → AppendsFront out out' text
@@ -132,15 +132,15 @@ held_is : (part other : List ℕ) → Some part ≡ Some other → part ≡ othe
 held_is part other is = cc
 
 -- none of those that wait can be coded, told by how many were read and are coded
-none_more : (p : Planning) (t : Settings) (read coded : ℕ) → p.settings ≡ t → p.accepted ≡ read → p.given ≡ coded → length p.waiting ≡ read - coded → gives_none p false ≡ true → none_can_be_coded t read coded ≡ true
+none_more : (p : Planning) (t : Settings) (read coded : ℕ) → p.settings ≡ t → p.accepted ≡ read → p.given ≡ coded → length p.waiting ≡ read - coded → gives_none p (p.accepted == t.pictures) ≡ true → none_can_be_coded t read coded ≡ true
 none_more p t read coded settings accepted given waiting none =
-    subst (λ (w : ℕ). (w == 0 || are_too_few t read coded false w) ≡ true) waiting
-    (subst (λ (k : ℕ). (length p.waiting == 0 || are_too_few t read k false (length p.waiting)) ≡ true) given
-    (subst (λ (n : ℕ). (length p.waiting == 0 || are_too_few t n p.given false (length p.waiting)) ≡ true) accepted
-    (subst (λ (s : Settings). (length p.waiting == 0 || are_too_few s p.accepted p.given false (length p.waiting)) ≡ true) settings none)))
+    subst (λ (w : ℕ). (w == 0 || are_too_few t read coded (read == t.pictures) w) ≡ true) waiting
+    (subst (λ (k : ℕ). (length p.waiting == 0 || are_too_few t read k (read == t.pictures) (length p.waiting)) ≡ true) given
+    (subst (λ (n : ℕ). (length p.waiting == 0 || are_too_few t n p.given (n == t.pictures) (length p.waiting)) ≡ true) accepted
+    (subst (λ (s : Settings). (length p.waiting == 0 || are_too_few s p.accepted p.given (p.accepted == t.pictures) (length p.waiting)) ≡ true) settings none)))
 
 pub due_by : (f : IndexRule) (t : Settings) (first : Option (List ℕ)) (p : Planning) (c : Progress) (held held' out0 out side0 side : Option (List ℕ)) (part : List ℕ) → IfSome first (λ bytes. Alone f t bytes p c held out0 out side0 side) → Consumes held held' part → length part < raw_length t → p.accepted ≤ t.pictures
-    → p.accepted ≡ p.given + length p.waiting → length p.waiting ≤ waiting_places p.settings → p.settings ≡ t → gives_none p false ≡ true → IfSome first (λ bytes. WritesDue f t bytes held' out0 out side0 side)
+    → p.accepted ≡ p.given + length p.waiting → length p.waiting ≤ waiting_places p.settings → p.settings ≡ t → gives_none p (p.accepted == t.pictures) ≡ true → IfSome first (λ bytes. WritesDue f t bytes held' out0 out side0 side)
 due_by f t None p c held held' out0 out side0 side part a got short few counts fit same none = tt
 due_by f t (Some bytes) p c held held' out0 out side0 side part a got short few counts fit same none =
     let left = given_of held held' a.rest part a.holds got in

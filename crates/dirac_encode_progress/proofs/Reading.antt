@@ -2,7 +2,7 @@
 use Rattle.std.proofs.Common.{◌≡◌, ℕ, zero, suc, ◌+◌, ◌*◌, ◌<◌, ◌≤◌, ◌^◌, ◌==◌, if◌then◌else◌, Bool, true, false, List, [], ◌∷◌, ◌++◌, length, map, take, drop, refl, sym, ap, ◌∙◌, subst, arith, append-nil, length-append, length-drop, Option, None, Some}
 use Rattle.std.specs.Prelude.{min, IfSome, slice_get, ◌||◌}
 use Rattle.std.specs.Io.KnownBytes.{Consumes, IsAtEnd}
-use Rattle.std.proofs.lemmas.Bool.{le-leb, lt-leb}
+use Rattle.std.proofs.lemmas.Bool.{eqb-true, le-leb, lt-leb}
 use Rattle.std.proofs.lemmas.List.{length-map, length-take-le}
 use Rattle.std.proofs.lemmas.Option.{slice_get_within}
 use Rattle.dirac_common.specs.declared.picture.Picture.{Picture}
@@ -322,20 +322,36 @@ next_leads f t (Some bytes) p q p' c c' held held' out0 out out' side0 side side
 
 -- ---- what waits is coded, and nothing is read
 
-pub waits_stops : PlansCanBeCoded → (f : IndexRule) (t : Settings) (first : Option (List ℕ)) (p : Planning) (c : Progress) (answer : Encoded) (held out0 out out' side0 side side' : Option (List ℕ)) → IsAccepted t → SoFar f t first p c held out0 out side0 side → Stops f t false p c answer out out' side side'
-    → IfSome first (λ bytes. AnswersEncodedStream answer (encoding_under f t bytes) out0 out' side0 side')
-waits_stops plans f t None p c answer held out0 out out' side0 side side' accepted so stops = tt
-waits_stops plans f t (Some bytes) p c answer held out0 out out' side0 side side' accepted so stops = stops bytes out0 side0 (all_leave plans f t bytes accepted) so.goes
+pub all_full : (n : ℕ) (p : Planning) (t : Settings) → n ≡ p.accepted → (n == t.pictures) ≡ true → p.accepted ≡ t.pictures
+all_full n p t is full = sym is ∙ eqb-true n t.pictures full
 
-pub waits_leads : (f : IndexRule) (t : Settings) (first : Option (List ℕ)) (p p' : Planning) (c c' : Progress) (held out0 out out' side0 side side' : Option (List ℕ)) → SoFar f t first p c held out0 out side0 side → LeadsOn f t false p p' c c' out out' side side' → p'.accepted ≡ p.accepted
-    → SoFar f t first p' c' held out0 out' side0 side'
-waits_leads f t None p p' c c' held out0 out out' side0 side side' so led same = tt
-waits_leads f t (Some bytes) p p' c c' held out0 out out' side0 side side' so led same = record {
-  goes = led bytes out0 side0 so.goes;
-  is_held = so.is_held ∙ ap (λ k. Some (drop (k * raw_length t) bytes)) (sym same);
-  fits = omega (arith, so.fits, ap (λ k. k * raw_length t) same);
-  below = subst (λ (k : ℕ). AreBytes (take (k * raw_length t) bytes)) (sym same) so.below;
+-- as many pictures as the settings allow are all sources, whatever follows
+goes_full : (f : IndexRule) (t : Settings) (bytes : List ℕ) (full : Bool) (p : Planning) (c : Progress) (out0 out side0 side : Option (List ℕ)) → (full ≡ true → p.accepted ≡ t.pictures) → CodingGoesOn f t bytes false p c out0 out side0 side → CodingGoesOn f t bytes full p c out0 out side0 side
+goes_full f t bytes full p c out0 out side0 side all g = record {
+  stands = g.stands;
+  among = g.among;
+  given = g.given;
+  within = g.within;
+  all = λ e. omega (arith, all e, g.within, length-pictures_in t (min (whole_pictures t bytes) t.pictures) 0 bytes);
 }
+
+pub waits_stops : PlansCanBeCoded → (f : IndexRule) (t : Settings) (full : Bool) (first : Option (List ℕ)) (p : Planning) (c : Progress) (answer : Encoded) (held out0 out out' side0 side side' : Option (List ℕ)) → IsAccepted t → (full ≡ true → p.accepted ≡ t.pictures) → SoFar f t first p c held out0 out side0 side
+    → Stops f t full p c answer out out' side side' → IfSome first (λ bytes. AnswersEncodedStream answer (encoding_under f t bytes) out0 out' side0 side')
+waits_stops plans f t full None p c answer held out0 out out' side0 side side' accepted all so stops = tt
+waits_stops plans f t full (Some bytes) p c answer held out0 out out' side0 side side' accepted all so stops =
+    stops bytes out0 side0 (all_leave plans f t bytes accepted) (goes_full f t bytes full p c out0 out side0 side all so.goes)
+
+pub waits_leads : (f : IndexRule) (t : Settings) (full : Bool) (first : Option (List ℕ)) (p p' : Planning) (c c' : Progress) (held out0 out out' side0 side side' : Option (List ℕ)) → (full ≡ true → p.accepted ≡ t.pictures) → SoFar f t first p c held out0 out side0 side → LeadsOn f t full p p' c c' out out' side side' → p'.accepted ≡ p.accepted
+    → SoFar f t first p' c' held out0 out' side0 side'
+waits_leads f t full None p p' c c' held out0 out out' side0 side side' all so led same = tt
+waits_leads f t full (Some bytes) p p' c c' held out0 out out' side0 side side' all so led same =
+    let g = led bytes out0 side0 (goes_full f t bytes full p c out0 out side0 side all so.goes) in
+    record {
+      goes = record { stands = g.stands; among = g.among; given = g.given; within = g.within; all = λ e. absurd cc };
+      is_held = so.is_held ∙ ap (λ k. Some (drop (k * raw_length t) bytes)) (sym same);
+      fits = omega (arith, so.fits, ap (λ k. k * raw_length t) same);
+      below = subst (λ (k : ℕ). AreBytes (take (k * raw_length t) bytes)) (sym same) so.below;
+    }
 
 -- ---- the first picture
 

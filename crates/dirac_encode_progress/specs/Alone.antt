@@ -1,5 +1,5 @@
 -- What was written of an encoding while its raw pictures still came.
-use Rattle.std.specs.Prelude.{◌≡◌, ℕ, ◌+◌, ◌-◌, ◌==◌, ◌≤◌, ◌||◌, Bool, true, false, List, ◌++◌, length, take}
+use Rattle.std.specs.Prelude.{◌≡◌, ℕ, ◌+◌, ◌-◌, ◌==◌, ◌≤◌, ◌||◌, Bool, true, List, ◌++◌, length, take}
 use Rattle.std.specs.Prelude.{Option, Some}
 use Rattle.std.specs.Io.KnownBytes.{Appends}
 use Rattle.dirac_types.specs.declared.settings.Settings.{Settings}
@@ -21,10 +21,10 @@ pub record WritesFrontOfRead (f : IndexRule) (t : Settings) (bytes : List ℕ)
   pub holds : held' ≡ Some rest
   pub written : WritesFront (encoding_under f t read) out out' side side'
 
--- where so many pictures were read and so many are coded, no other can be coded while more may come: all are coded, or
+-- where so many pictures were read and so many are coded, no other can be coded: all are coded, or more may come and
 -- too few wait for the next one
 abbrev pub none_can_be_coded : Settings → ℕ → ℕ → Bool
-none_can_be_coded t read coded = read - coded == 0 || are_too_few t read coded false (read - coded)
+none_can_be_coded t read coded = read - coded == 0 || are_too_few t read coded (read == t.pictures) (read - coded)
 
 -- of these bytes some were read and just the others are held; whatever bytes follow those read, of the encoding of all
 -- these just the units of the first pictures in coding order were written, and just the reconstructions that leave

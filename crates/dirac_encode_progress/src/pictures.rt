@@ -100,7 +100,7 @@ pub fn put_pictures<
         (rule_of coder.now.budget) coder.now.settings.now held (S.held source.new)
         (K.taken out.old) (K.taken out.new) (N.taken side.old) (N.taken side.new)) }
     // Where a read failed, all that was due was written: of the whole pictures read no more are left than may wait, and
-    // none that the planner gives while more may come.
+    // none that the planner gives while more may come; where no more may come, none.
     ensures due { result ≡ Encoded.ReadFault → IfSome (S.held source.old) (λ held. WritesDue
         (rule_of coder.now.budget) coder.now.settings.now held (S.held source.new)
         (K.taken out.old) (K.taken out.new) (N.taken side.old) (N.taken side.new)) }
@@ -117,10 +117,12 @@ pub fn put_pictures<
     streams_show_their_pictures();
     let settings = coder.settings;
     'pictures: loop {
+        let number = planner.accepted();
         match fill(source, bytes) {
-            // What waits only for others of its lot is due all the same.
+            // What waits only for others of its lot is due all the same; where no more may come, all that is left.
             Filled::Failed => {
-                if let Err(answer) = put_planned(coder, out, side, planner, false, 0, coding) {
+                let full = number == settings.pictures;
+                if let Err(answer) = put_planned(coder, out, side, planner, full, 0, coding) {
                     return answer;
                 }
                 return Encoded::ReadFault;
@@ -130,7 +132,6 @@ pub fn put_pictures<
             }
             Filled::Whole => {}
         }
-        let number = planner.accepted();
         if number == settings.pictures {
             return put_rest(coder, out, side, planner, coding, Encoded::TooManyPictures);
         }

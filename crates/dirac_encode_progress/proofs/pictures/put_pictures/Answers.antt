@@ -1,6 +1,6 @@
-use Rattle.std.proofs.Common.{◌<◌, ◌∙◌, ℕ, List, [], take, Some, refl, sym, ap, subst, arith, append-nil, length}
+use Rattle.std.proofs.Common.{◌≡◌, ◌<◌, ◌==◌, ◌∙◌, ℕ, true, List, [], take, Some, refl, sym, ap, subst, arith, append-nil, length}
 use Rattle.std.proofs.lemmas.List.{length-take-le}
-use Rattle.dirac_plan.specs.Planning.{Planning, is_closed}
+use Rattle.dirac_plan.specs.Planning.{Planning, gives_none, is_closed}
 use Rattle.dirac_encode_laws.specs.declared.answers.Encoded.TheVariants as encoded
 use Rattle.dirac_encode_laws.specs.Encoding.{EncodesToTheEnd, answer_behind}
 use Rattle.dirac_encode_laws.specs.Fit.{rule_of}
@@ -9,7 +9,7 @@ use Rattle.dirac_encode_laws.specs.Steps.{Progress}
 use Rattle.dirac_encode_laws.proofs.Accepted.{most_pictures, raw_some}
 use Rattle.dirac_encode_progress.specs.Going.{so_far}
 use Rattle.dirac_encode_progress.proofs.Finding.{lists_first, lists_last, lists_pushed}
-use Rattle.dirac_encode_progress.proofs.Reading.{behind_some, many_ends, next_leads, next_stops, open_at_first, part_ends, so_far_first, stop_no_part, stopped_before_the_end, stops_here, waits_leads, waits_stops}
+use Rattle.dirac_encode_progress.proofs.Reading.{all_full, behind_some, many_ends, next_leads, next_stops, open_at_first, part_ends, so_far_first, stop_no_part, stopped_before_the_end, stops_here, waits_leads, waits_stops}
 use Rattle.dirac_encode_progress.proofs.OfRead.{alone_first, alone_leads, alone_waits, due_by, front_by}
 use Rattle.dirac_encode_progress.proofs.Closing.{many_answer, part_answers, rest_behind, rest_recovered}
 use Rattle.dirac_encode_progress.proofs.pictures.put_pictures.Goals as goal
@@ -46,8 +46,8 @@ returns-in-Err-clause-encoded g c =
     let f = rule_of c.args.coder.now.budget in
     let t = c.args.coder.now.settings.now in
     let first = g.S.Source.held c.args.source.now in
-    waits_stops c.plans_can_be_coded.ensures f t first c.pictures.planner (so_far c.pictures.coding) c.in-Err.answer (g.S.Source.held c.pictures.source) (g.K.Sink.taken c.args.out.now) (g.K.Sink.taken c.pictures.out) (g.K.Sink.taken c.put_planned.new.out) (g.N.Sink.taken c.args.side.now) (g.N.Sink.taken c.pictures.side) (g.N.Sink.taken c.put_planned.new.side)
-    c.requires.accepted c.pictures.invariant.runs c.in-Err.ensures.stopped
+    waits_stops c.plans_can_be_coded.ensures f t (c.accepted-number.result == t.pictures) first c.pictures.planner (so_far c.pictures.coding) c.in-Err.answer (g.S.Source.held c.pictures.source) (g.K.Sink.taken c.args.out.now) (g.K.Sink.taken c.pictures.out) (g.K.Sink.taken c.put_planned.new.out) (g.N.Sink.taken c.args.side.now) (g.N.Sink.taken c.pictures.side) (g.N.Sink.taken c.put_planned.new.side)
+    c.requires.accepted (all_full c.accepted-number.result c.pictures.planner t c.accepted-number.ensures.value) c.pictures.invariant.runs c.in-Err.ensures.stopped
 
 pub returns-in-Err-clause-recovered : goal.returns-in-Err-clause-recovered
 returns-in-Err-clause-recovered g c =
@@ -67,8 +67,8 @@ returns-in-Err-clause-front_of_read g c =
     front_by f t first c.pictures.planner (so_far c.pictures.coding) c.in-Err.answer (g.S.Source.held c.pictures.source) (g.S.Source.held c.fill.new.source) (g.K.Sink.taken c.args.out.now) (g.K.Sink.taken c.pictures.out) (g.K.Sink.taken c.put_planned.new.out) (g.N.Sink.taken c.args.side.now) (g.N.Sink.taken c.pictures.side) (g.N.Sink.taken c.put_planned.new.side)
     part c.pictures.invariant.alone front.2
     (λ bytes runs.
-    waits_stops c.plans_can_be_coded.ensures f t (Some bytes) c.pictures.planner (so_far c.pictures.coding) c.in-Err.answer (Some part) (g.K.Sink.taken c.args.out.now) (g.K.Sink.taken c.pictures.out) (g.K.Sink.taken c.put_planned.new.out) (g.N.Sink.taken c.args.side.now) (g.N.Sink.taken c.pictures.side) (g.N.Sink.taken c.put_planned.new.side)
-    c.requires.accepted runs c.in-Err.ensures.stopped)
+    waits_stops c.plans_can_be_coded.ensures f t (c.accepted-number.result == t.pictures) (Some bytes) c.pictures.planner (so_far c.pictures.coding) c.in-Err.answer (Some part) (g.K.Sink.taken c.args.out.now) (g.K.Sink.taken c.pictures.out) (g.K.Sink.taken c.put_planned.new.out) (g.N.Sink.taken c.args.side.now) (g.N.Sink.taken c.pictures.side) (g.N.Sink.taken c.put_planned.new.side)
+    c.requires.accepted (all_full c.accepted-number.result c.pictures.planner t c.accepted-number.ensures.value) runs c.in-Err.ensures.stopped)
 
 pub returns-in-Failed-clause-encoded : goal.returns-in-Failed-clause-encoded
 returns-in-Failed-clause-encoded g c =
@@ -76,8 +76,8 @@ returns-in-Failed-clause-encoded g c =
     let t = c.args.coder.now.settings.now in
     let first = g.S.Source.held c.args.source.now in
     stops_here c.plans_can_be_coded.ensures f t first c.put_planned.new.planner (so_far c.put_planned.new.coding) (g.S.Source.held c.pictures.source) (g.K.Sink.taken c.args.out.now) (g.K.Sink.taken c.put_planned.new.out) (g.N.Sink.taken c.args.side.now) (g.N.Sink.taken c.put_planned.new.side) c.requires.accepted
-    (waits_leads f t first c.pictures.planner c.put_planned.new.planner (so_far c.pictures.coding) (so_far c.put_planned.new.coding) (g.S.Source.held c.pictures.source) (g.K.Sink.taken c.args.out.now) (g.K.Sink.taken c.pictures.out) (g.K.Sink.taken c.put_planned.new.out) (g.N.Sink.taken c.args.side.now) (g.N.Sink.taken c.pictures.side) (g.N.Sink.taken c.put_planned.new.side)
-    c.pictures.invariant.runs c.in_default.ensures.led c.in_default.ensures.accepted)
+    (waits_leads f t (c.accepted-number.result == t.pictures) first c.pictures.planner c.put_planned.new.planner (so_far c.pictures.coding) (so_far c.put_planned.new.coding) (g.S.Source.held c.pictures.source) (g.K.Sink.taken c.args.out.now) (g.K.Sink.taken c.pictures.out) (g.K.Sink.taken c.put_planned.new.out) (g.N.Sink.taken c.args.side.now) (g.N.Sink.taken c.pictures.side) (g.N.Sink.taken c.put_planned.new.side)
+    (all_full c.accepted-number.result c.pictures.planner t c.accepted-number.ensures.value) c.pictures.invariant.runs c.in_default.ensures.led c.in_default.ensures.accepted)
 
 pub returns-in-Ended-clause-encoded : goal.returns-in-Ended-clause-encoded
 returns-in-Ended-clause-encoded g c =
@@ -226,11 +226,14 @@ put_planned-requires-in-pictures-clause-lists g c =
     lists_pushed c.args.coder.now.settings.now c.pictures.planner c.push_raw.new.planner (so_far c.pictures.coding) _ c.pictures.invariant.lists c.in-Ok.ensures.source c.in-Ok.ensures.pushed
     (omega (arith, c.accepted-number.ensures.value, c.if-number-settings.false, c.pictures.invariant.in_range, most_pictures c.args.coder.now.settings.now c.requires.accepted))
 
+pub put_planned-requires-clause-lists : goal.put_planned-requires-clause-lists
+put_planned-requires-clause-lists g c = lists_last c.args.coder.now.settings.now _ c.pictures.planner (so_far c.pictures.coding) c.pictures.invariant.lists
+
 pub put_rest-requires-clause-lists : goal.put_rest-requires-clause-lists
-put_rest-requires-clause-lists g c = lists_last c.args.coder.now.settings.now c.pictures.planner (so_far c.pictures.coding) c.pictures.invariant.lists
+put_rest-requires-clause-lists g c = lists_last c.args.coder.now.settings.now true c.pictures.planner (so_far c.pictures.coding) c.pictures.invariant.lists
 
 pub put_rest-requires-then-number-settings-clause-lists : goal.put_rest-requires-then-number-settings-clause-lists
-put_rest-requires-then-number-settings-clause-lists g c = lists_last c.args.coder.now.settings.now c.pictures.planner (so_far c.pictures.coding) c.pictures.invariant.lists
+put_rest-requires-then-number-settings-clause-lists g c = lists_last c.args.coder.now.settings.now true c.pictures.planner (so_far c.pictures.coding) c.pictures.invariant.lists
 
 pub returns-in-Failed-clause-front_of_read : goal.returns-in-Failed-clause-front_of_read
 returns-in-Failed-clause-front_of_read g c =
@@ -239,8 +242,8 @@ returns-in-Failed-clause-front_of_read g c =
     let first = g.S.Source.held c.args.source.now in
     let front = c.in-Failed.ensures.front refl in
     let part : List ℕ = take front.0 c.fill.new.buf in
-    let alone = alone_waits f t first c.pictures.planner c.put_planned.new.planner (so_far c.pictures.coding) (so_far c.put_planned.new.coding) (g.S.Source.held c.pictures.source) (g.K.Sink.taken c.args.out.now) (g.K.Sink.taken c.pictures.out) (g.K.Sink.taken c.put_planned.new.out) (g.N.Sink.taken c.args.side.now) (g.N.Sink.taken c.pictures.side) (g.N.Sink.taken c.put_planned.new.side)
-    c.pictures.invariant.alone c.in_default.ensures.led c.in_default.ensures.accepted in
+    let alone = alone_waits f t (c.accepted-number.result == t.pictures) first c.pictures.planner c.put_planned.new.planner (so_far c.pictures.coding) (so_far c.put_planned.new.coding) (g.S.Source.held c.pictures.source) (g.K.Sink.taken c.args.out.now) (g.K.Sink.taken c.pictures.out) (g.K.Sink.taken c.put_planned.new.out) (g.N.Sink.taken c.args.side.now) (g.N.Sink.taken c.pictures.side) (g.N.Sink.taken c.put_planned.new.side)
+    (all_full c.accepted-number.result c.pictures.planner t c.accepted-number.ensures.value) c.pictures.invariant.alone c.in_default.ensures.led c.in_default.ensures.accepted in
     front_by f t first c.put_planned.new.planner (so_far c.put_planned.new.coding) encoded.ReadFault (g.S.Source.held c.pictures.source) (g.S.Source.held c.fill.new.source) (g.K.Sink.taken c.args.out.now) (g.K.Sink.taken c.put_planned.new.out) (g.K.Sink.taken c.put_planned.new.out) (g.N.Sink.taken c.args.side.now) (g.N.Sink.taken c.put_planned.new.side) (g.N.Sink.taken c.put_planned.new.side)
     part alone front.2
     (λ bytes runs.
@@ -310,9 +313,10 @@ returns-in-Failed-clause-due g c = λ failed.
     let first = g.S.Source.held c.args.source.now in
     let front = c.in-Failed.ensures.front refl in
     let few : front.0 < length c.fill.new.buf = omega (arith, front.1, c.fill.ensures.size) in
-    let alone = alone_waits f t first c.pictures.planner c.put_planned.new.planner (so_far c.pictures.coding) (so_far c.put_planned.new.coding) (g.S.Source.held c.pictures.source) (g.K.Sink.taken c.args.out.now) (g.K.Sink.taken c.pictures.out) (g.K.Sink.taken c.put_planned.new.out) (g.N.Sink.taken c.args.side.now) (g.N.Sink.taken c.pictures.side) (g.N.Sink.taken c.put_planned.new.side)
-    c.pictures.invariant.alone c.in_default.ensures.led c.in_default.ensures.accepted in
+    let alone = alone_waits f t (c.accepted-number.result == t.pictures) first c.pictures.planner c.put_planned.new.planner (so_far c.pictures.coding) (so_far c.put_planned.new.coding) (g.S.Source.held c.pictures.source) (g.K.Sink.taken c.args.out.now) (g.K.Sink.taken c.pictures.out) (g.K.Sink.taken c.put_planned.new.out) (g.N.Sink.taken c.args.side.now) (g.N.Sink.taken c.pictures.side) (g.N.Sink.taken c.put_planned.new.side)
+    (all_full c.accepted-number.result c.pictures.planner t c.accepted-number.ensures.value) c.pictures.invariant.alone c.in_default.ensures.led c.in_default.ensures.accepted in
     due_by f t first c.put_planned.new.planner (so_far c.put_planned.new.coding) (g.S.Source.held c.pictures.source) (g.S.Source.held c.fill.new.source) (g.K.Sink.taken c.args.out.now) (g.K.Sink.taken c.put_planned.new.out) (g.N.Sink.taken c.args.side.now) (g.N.Sink.taken c.put_planned.new.side)
     (take front.0 c.fill.new.buf) alone front.2
     (omega (arith, few, length-take-le front.0 c.fill.new.buf (omega (arith, few)), c.fill.ensures.size, c.pictures.invariant.size))
-    (omega (arith, c.in_default.ensures.accepted, c.pictures.invariant.in_range)) c.in_default.ensures.counts c.in_default.ensures.waiting_fit c.in_default.ensures.settings (c.in_default.ensures.none_due refl)
+    (omega (arith, c.in_default.ensures.accepted, c.pictures.invariant.in_range)) c.in_default.ensures.counts c.in_default.ensures.waiting_fit c.in_default.ensures.settings
+    (subst (λ (n : ℕ). gives_none c.put_planned.new.planner (n == t.pictures) ≡ true) (c.accepted-number.ensures.value ∙ sym c.in_default.ensures.accepted) (c.in_default.ensures.none_due refl))
