@@ -412,8 +412,8 @@ fn shows_pictures_before_the_input_ends(rt: HostRuntime) -> Result<(), Fail> {
     Ok(())
 }
 
-// Two workers read two pictures ahead: up to the ends of pictures 1, 3 and 5, behind which the end unit stands. The first
-// picture leaves while the fifth is taken.
+// Two workers read two pictures ahead: up to the ends of pictures 1, 3 and 5, behind which the end unit stands. The
+// first picture leaves while the fifth is taken.
 #[test]
 fn reads_no_more_pictures_ahead_than_there_are_workers(rt: HostRuntime) -> Result<(), Fail> {
     let alloc = rt.alloc();
