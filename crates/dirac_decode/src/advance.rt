@@ -9,9 +9,8 @@ ghost use Rattle.dirac_decode_picture.specs.Payload.{DecodesPictures};
 use crate::state::State;
 use crate::step::{Halt, Step};
 use dirac_common::{Fault, Stop};
-use dirac_decode_picture::DecodedPicture;
+use dirac_decode_picture::{DecodedPicture, DecodingRefs};
 use dirac_io::Source;
-use dirac_refs::RefBuffer;
 use dirac_sequence_header::Sequence;
 use dirac_units::{StreamEnd, Unit, UnitStep, Units};
 use std::alloc::Global;
@@ -40,12 +39,9 @@ fn next_unit<S: Source>(units: &mut Units, source: &mut S) -> Result<Unit, Halt>
 }
 
 /// What the content of this unit brings.
-fn content_of<F: Fn(Global, &[u8], u8, &Sequence, &mut RefBuffer) -> Result<DecodedPicture, Stop>>(
-    decode: &F,
-    alloc: Global,
-    unit: Unit,
-    state: &mut State,
-) -> Result<Step, Halt>
+fn content_of<
+    F: Fn(Global, &[u8], u8, &Sequence, &mut DecodingRefs) -> Result<DecodedPicture, Stop>,
+>(decode: &F, alloc: Global, unit: Unit, state: &mut State) -> Result<Step, Halt>
     requires decodes { DecodesPictures (F.pre decode.now) (F.post decode.now) }
     requires below_2_63 { unit.at + 13 + length unit.payload < 2 ^ 63 }
     ensures brings { HasContent result unit state.old state.new }
@@ -66,7 +62,7 @@ fn content_of<F: Fn(Global, &[u8], u8, &Sequence, &mut RefBuffer) -> Result<Deco
 /// Takes the next unit of a stream.
 pub(crate) fn advance_by_unit<
     S: Source,
-    F: Fn(Global, &[u8], u8, &Sequence, &mut RefBuffer) -> Result<DecodedPicture, Stop>,
+    F: Fn(Global, &[u8], u8, &Sequence, &mut DecodingRefs) -> Result<DecodedPicture, Stop>,
 >(
     decode: &F,
     alloc: Global,

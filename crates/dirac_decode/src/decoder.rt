@@ -11,9 +11,9 @@ use crate::in_turn::decode_in_turn;
 use crate::state::State;
 use dirac_common::{Picture, Stop};
 use dirac_content::Tally;
-use dirac_decode_picture::DecodedPicture;
+use dirac_decode_picture::{DecodedPicture, DecodingRefs};
 use dirac_io::Source;
-use dirac_refs::{MOST_REFERENCES, RefBuffer};
+use dirac_refs::MOST_REFERENCES;
 use dirac_sequence_header::Sequence;
 use dirac_units::{StreamEnd, Units};
 use std::alloc::Global;
@@ -98,7 +98,7 @@ impl Decoder {
     /// The next picture of the stream, as `next_picture`, where `decode` decodes each picture.
     pub fn next_picture_by<
         S: Source,
-        F: Fn(Global, &[u8], u8, &Sequence, &mut RefBuffer) -> Result<DecodedPicture, Stop>,
+        F: Fn(Global, &[u8], u8, &Sequence, &mut DecodingRefs) -> Result<DecodedPicture, Stop>,
     >(&mut self, decode: &F, source: &mut S) -> Next
         requires decodes { DecodesPictures (F.pre decode.now) (F.post decode.now) }
         requires no_overflow { self.old.units.unit_place.at + length self.old.units.ahead + S.left source.old < 2 ^ 63 }

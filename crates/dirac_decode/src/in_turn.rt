@@ -1,8 +1,7 @@
 ghost use Rattle.dirac_decode_picture.specs.Payload.{CanBeDecoded, DecodesPayload};
 
 use dirac_common::Stop;
-use dirac_decode_picture::{DecodedPicture, decode_picture};
-use dirac_refs::RefBuffer;
+use dirac_decode_picture::{DecodedPicture, DecodingRefs, decode_picture};
 use dirac_sequence_header::Sequence;
 use std::alloc::Global;
 
@@ -12,7 +11,7 @@ pub(crate) fn decode_in_turn(
     payload: &[u8],
     code: u8,
     sequence: &Sequence,
-    refs: &mut RefBuffer,
+    refs: &mut DecodingRefs,
 ) -> Result<DecodedPicture, Stop>
     requires { CanBeDecoded code sequence.now refs.old }
     ensures { DecodesPayload payload.now code sequence.now refs.old result refs.new }

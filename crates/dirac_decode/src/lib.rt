@@ -17,7 +17,7 @@ pub use dirac_content::{
     Opened, Tally, a_stream_shows_its_sequences, byte, named, named_reference, put_picture,
     what_leaves_is_shown,
 };
-pub use dirac_decode_picture::{DecodedPicture, decode_picture};
+pub use dirac_decode_picture::{DecodedPicture, DecodingRefs, decode_picture};
 pub use dirac_picture::{CodedMotion, CodedPicture, CodedResidual, PlaneBands, read_picture};
 pub use dirac_rebuild::{
     Moved, height_of, plane_motion, plane_of, predict, predict_from, predict_with,

@@ -10,8 +10,8 @@ ghost use Rattle.dirac_decode.specs.Taking.{IsOfOpen, IsPopped, TakesContent, sh
 use crate::step::Step;
 use dirac_common::{Cause, END_OF_SEQUENCE, Picture, Refusal, SEQUENCE_HEADER, Stop};
 use dirac_content::Opened;
-use dirac_decode_picture::DecodedPicture;
-use dirac_refs::{Delivery, MOST_REFERENCES, RefBuffer, key};
+use dirac_decode_picture::{DecodedPicture, DecodingRefs};
+use dirac_refs::{Delivery, MOST_REFERENCES, key};
 use dirac_sequence_header::{Sequence, read_sequence};
 use dirac_units::{PARSE_INFO_LENGTH, Payload, fields_are_read};
 use std::alloc::Global;
@@ -22,7 +22,7 @@ use std::marker::Model;
 pub(crate) struct State {
     opened: Option<Opened>,
     first: Option<u32>,
-    refs: RefBuffer,
+    refs: DecodingRefs,
     waits: Delivery,
     most: u8,
 }
@@ -54,7 +54,7 @@ impl State {
         State {
             opened: None,
             first: None,
-            refs: RefBuffer::new(),
+            refs: DecodingRefs::new(),
             waits: Delivery::new(),
             most: 0,
         }
@@ -87,7 +87,7 @@ impl State {
 
     /// Takes the content of a unit with this parse code.
     pub(crate) fn take<
-        F: Fn(Global, &[u8], u8, &Sequence, &mut RefBuffer) -> Result<DecodedPicture, Stop>,
+        F: Fn(Global, &[u8], u8, &Sequence, &mut DecodingRefs) -> Result<DecodedPicture, Stop>,
     >(&mut self, decode: &F, alloc: Global, code: u8, payload: Payload) -> Result<Step, Stop>
         requires decodes { DecodesPictures (F.pre decode.now) (F.post decode.now) }
         requires below_2_63 { length payload < 2 ^ 63 }
@@ -110,7 +110,7 @@ impl State {
         if code == END_OF_SEQUENCE {
             self.opened = None;
             self.first = None;
-            self.refs = RefBuffer::new();
+            self.refs = DecodingRefs::new();
             return Step::Drains;
         }
         Step::On
@@ -146,7 +146,7 @@ impl State {
 
     /// Decodes a picture of the open sequence.
     fn take_picture<
-        F: Fn(Global, &[u8], u8, &Sequence, &mut RefBuffer) -> Result<DecodedPicture, Stop>,
+        F: Fn(Global, &[u8], u8, &Sequence, &mut DecodingRefs) -> Result<DecodedPicture, Stop>,
     >(&mut self, decode: &F, alloc: Global, code: u8, payload: &[u8]) -> Result<Step, Stop>
         requires decodes { DecodesPictures (F.pre decode.now) (F.post decode.now) }
         requires code { IsTrue (is_picture code) }
@@ -198,13 +198,15 @@ impl State {
 }
 
 /// A picture decoded by `decode`.
-fn decoded_by<F: Fn(Global, &[u8], u8, &Sequence, &mut RefBuffer) -> Result<DecodedPicture, Stop>>(
+fn decoded_by<
+    F: Fn(Global, &[u8], u8, &Sequence, &mut DecodingRefs) -> Result<DecodedPicture, Stop>,
+>(
     decode: &F,
     alloc: Global,
     payload: &[u8],
     code: u8,
     sequence: &Sequence,
-    refs: &mut RefBuffer,
+    refs: &mut DecodingRefs,
 ) -> Result<DecodedPicture, Stop>
     requires decodes { DecodesPictures (F.pre decode.now) (F.post decode.now) }
     requires can_be_decoded { CanBeDecoded code sequence.now refs.old }

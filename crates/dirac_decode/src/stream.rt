@@ -12,9 +12,9 @@ use crate::decoder::Decoder;
 use crate::in_turn::decode_in_turn;
 use dirac_common::Stop;
 use dirac_content::put_picture;
-use dirac_decode_picture::DecodedPicture;
+use dirac_decode_picture::{DecodedPicture, DecodingRefs};
 use dirac_io::{Put, Sink, Source};
-use dirac_refs::{MOST_REFERENCES, RefBuffer};
+use dirac_refs::MOST_REFERENCES;
 use dirac_sequence_header::Sequence;
 use std::alloc::Global;
 
@@ -44,7 +44,7 @@ pub fn decode_stream<S: Source, K: Sink>(alloc: Global, source: &mut S, out: &mu
 pub fn decode_stream_by<
     S: Source,
     K: Sink,
-    F: Fn(Global, &[u8], u8, &Sequence, &mut RefBuffer) -> Result<DecodedPicture, Stop>,
+    F: Fn(Global, &[u8], u8, &Sequence, &mut DecodingRefs) -> Result<DecodedPicture, Stop>,
 >(decode: &F, alloc: Global, source: &mut S, out: &mut K) -> Decoded
     requires decodes { DecodesPictures (F.pre decode.now) (F.post decode.now) }
     ensures decoded { IfSome (S.held source.old)
@@ -74,7 +74,7 @@ pub fn decode_stream_by<
 fn write_pictures<
     S: Source,
     K: Sink,
-    F: Fn(Global, &[u8], u8, &Sequence, &mut RefBuffer) -> Result<DecodedPicture, Stop>,
+    F: Fn(Global, &[u8], u8, &Sequence, &mut DecodingRefs) -> Result<DecodedPicture, Stop>,
 >(decode: &F, decoder: &mut Decoder, row: &mut Vec<u8>, source: &mut S, out: &mut K) -> Decoded
     requires decodes { DecodesPictures (F.pre decode.now) (F.post decode.now) }
     requires new { decoder.old ≡ decoder_begun }

@@ -1,10 +1,12 @@
-ghost use Rattle.std.specs.Prelude.{◌≡◌};
-ghost use Rattle.std.specs.List.{All};
-ghost use Rattle.dirac_refs.specs.Halves.{CanBeDoubled};
-ghost use Rattle.dirac_decode_picture.specs.Payload.{CanBeDecoded, DecodesPayload};
+ghost use Rattle.std.specs.Prelude.{IfOk};
+ghost use Rattle.dirac_sequence_header.specs.Lawful.{IsSequence};
+ghost use Rattle.dirac_picture.specs.Fits.{FitsSequence};
+ghost use Rattle.dirac_content.specs.Content.{AreReferences, IsPicture};
+ghost use Rattle.dirac_decode_picture.specs.Payload.{CanBeDecoded, DecodesPayload, StandsFor};
 
 use crate::decoded_picture::DecodedPicture;
-use dirac_common::Stop;
+use crate::decoding_refs::DecodingRefs;
+use dirac_common::{NoMemory, Stop};
 use dirac_picture::{CodedPicture, read_picture};
 use dirac_rebuild::rebuild;
 use dirac_refs::{RefBuffer, reference_of};
@@ -18,30 +20,36 @@ pub fn decode_picture(
     payload: &[u8],
     code: u8,
     sequence: &Sequence,
-    refs: &mut RefBuffer,
+    refs: &mut DecodingRefs,
 ) -> Result<DecodedPicture, Stop>
     requires { CanBeDecoded code sequence.now refs.old }
     ensures { DecodesPayload payload.now code sequence.now refs.old result refs.new }
 {
-    let coded = read_picture(alloc, payload, code, sequence, refs)?;
-    keep_halves(alloc, &coded, refs);
-    let picture = rebuild(alloc, &coded, sequence, refs)?;
-    let reference = reference_of(alloc, code, &picture)?;
+    let coded = read_picture(alloc, payload, code, sequence, refs.list())?;
+    refs.keep_halves(alloc, &coded.header);
+    let decoded = rebuild_picture(alloc, &coded, sequence, refs.list())?;
+    Ok(decoded)
+}
+
+/// Rebuilds a picture that was read, on one thread. Half samples that aren't kept are made for it alone.
+pub fn rebuild_picture(
+    alloc: Global,
+    coded: &CodedPicture,
+    sequence: &Sequence,
+    refs: &RefBuffer,
+) -> Result<DecodedPicture, NoMemory>
+    requires sequence { IsSequence sequence.now }
+    requires fits { FitsSequence coded.now.code sequence.now coded.now }
+    requires refs { AreReferences sequence.now refs.now coded.now.header }
+    ensures stands { IfOk result (StandsFor coded.now sequence.now refs.now) }
+    ensures fits { IfOk result (λ d. IsPicture sequence.now d.picture) }
+{
+    let picture = rebuild(alloc, coded, sequence, refs)?;
+    let reference = reference_of(alloc, coded.code, &picture)?;
     Ok(DecodedPicture {
-        code,
+        code: coded.code,
         header: coded.header,
         picture,
         reference,
     })
-}
-
-/// Keeps half samples of the pictures that a coded picture refers to, and of no other; an intra picture changes
-/// nothing.
-fn keep_halves(alloc: Global, coded: &CodedPicture, refs: &mut RefBuffer)
-    requires { All CanBeDoubled refs.old }
-    ensures { refs.new ≡ refs.old }
-{
-    if let Some(first) = coded.header.ref1 {
-        refs.keep_halves(alloc, first, coded.header.ref2);
-    }
 }

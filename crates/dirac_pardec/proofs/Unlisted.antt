@@ -17,8 +17,9 @@ use Rattle.dirac_picture.specs.Grammar.{body, is_intra, motion, picture, picture
 use Rattle.dirac_picture.proofs.Every.{Every, every_any, every_read, every_then}
 use Rattle.dirac_content.specs.Content.{rebuilt, samples_from}
 use Rattle.dirac_decode_picture.specs.declared.decoded_picture.DecodedPicture.{DecodedPicture}
+use Rattle.dirac_decode_picture.specs.Ahead.{IsDecodedAs}
 use Rattle.dirac_decode_picture.specs.Payload.{DecodesPayload}
-use Rattle.dirac_pardec.specs.Alone.{IsDecodedAlone}
+use Rattle.dirac_decode_picture.proofs.Kept.{decodes_payload}
 
 -- the parse code is one of the two of intra pictures
 abbrev IsIntra : ℕ → Type 0
@@ -76,28 +77,25 @@ made_alike : (s : Sequence) (refs : List Picture) (coded : CodedPicture) → Sta
 unfolding made_with
 made_alike s refs coded is = ap (made_with s [] coded) is ∙ sym (ap (made_with s refs coded) is)
 
-read_to : (r : Result CodedPicture Refusal) → is_ok r ≡ true → (coded : CodedPicture) × (r ≡ Ok coded)
-read_to (Ok coded) is = (coded, refl)
-read_to (Err e) is = absurd cc
-
-pub decoded_alike : (payload : List ℕ) (code : ℕ) (s : Sequence) (refs : List Picture) (d : DecodedPicture) → IsDecodedAlone payload code s d → DecodesPayload payload code s refs (Ok d) refs
-decoded_alike payload code s refs d is =
-    let intra : IsIntra code = intra_code code is.intra in
-    let there = read_to (picture_read code s [] payload) is.read in
-    let coded = there.0 in
-    let stands = is.value coded there.1 in
+-- what it is decoded to while none is listed it is decoded to whatever is listed
+decoded_as : (payload : List ℕ) (code : ℕ) (s : Sequence) (refs : List Picture) (d : DecodedPicture) → is_intra code ≡ true → IsDecodedAs payload code s [] d → IsDecodedAs payload code s refs d
+decoded_as payload code s refs d of_intra is =
+    let intra : IsIntra code = intra_code code of_intra in
+    let same : picture_read code s refs payload ≡ picture_read code s [] payload =
+    ap (λ (f : Syntax CodedPicture). value_of (read f (start payload))) (no_list code s refs intra) in
     record {
-      value = (
-        coded,
-        ap (λ (f : Syntax CodedPicture). value_of (read f (start payload))) (no_list code s refs intra) ∙ there.1,
-        record {
-          code = stands.code;
-          header = stands.header;
-          picture = stands.picture ∙ made_alike s refs coded (stays code s payload coded intra there.1);
-          reference = stands.reference;
-        },
-      );
-      place_inside = tt;
+      read = ap is_ok same ∙ is.read;
+      value = λ coded there.
+          let alone = sym same ∙ there in
+          let stands = is.value coded alone in
+          record {
+            code = stands.code;
+            header = stands.header;
+            picture = stands.picture ∙ made_alike s refs coded (stays code s payload coded intra alone);
+            reference = stands.reference;
+          };
       fits = is.fits;
-      kept = refl;
     }
+
+pub decoded_alike : (payload : List ℕ) (code : ℕ) (s : Sequence) (refs : List Picture) (d : DecodedPicture) → is_intra code ≡ true → IsDecodedAs payload code s [] d → DecodesPayload payload code s refs (Ok d) refs
+decoded_alike payload code s refs d intra is = decodes_payload payload code s refs d (decoded_as payload code s refs d intra is)

@@ -1,91 +1,54 @@
 //! Intra pictures, decoded before they are asked for.
 
-ghost use Rattle.std.specs.Prelude.{◌≡◌, true, IfOk, IfSome};
+ghost use Rattle.std.specs.Prelude.{◌≡◌, [], true, IfSome};
 ghost use Rattle.dirac_sequence_header.specs.Lawful.{IsSequence};
 ghost use Rattle.dirac_picture.specs.Grammar.{is_intra};
-ghost use Rattle.dirac_pardec.specs.Alone.{IsDecodedAlone};
+ghost use Rattle.dirac_decode_picture.specs.Ahead.{IsDecodedAs, IsDecodedFrom};
+ghost use Rattle.dirac_decode_picture.specs.Payload.{DecodesPayload};
 
+use crate::asked::Asked;
 use dirac_common::{NoMemory, Stop};
-use dirac_decode_picture::{DecodedPicture, decode_picture};
-use dirac_refs::RefBuffer;
-use dirac_sequence_header::Sequence;
+use dirac_decode_picture::{DecodedAhead, DecodedPicture, DecodingRefs, decode_picture};
 use std::alloc::Global;
 
-/// A picture that was decoded ahead, and what it was decoded from.
+/// A picture that was decoded ahead, with no picture listed.
 #[derive(Drop)]
-pub(crate) struct DecodedAhead {
-    payload: Vec<u8>,
-    code: u8,
-    sequence: Sequence,
-    decoded: DecodedPicture,
-    ghost decoded_alone: { IsDecodedAlone payload.items code sequence decoded },
+pub(crate) struct DecodedAlone {
+    ahead: DecodedAhead,
+    ghost decoded_alone: { IsDecodedFrom [] ahead },
 }
 
-/// Bytes once more.
-pub(crate) fn copied(alloc: Global, bytes: &[u8]) -> Result<Vec<u8>, NoMemory>
-    ensures { IfOk result (λ v. v.items ≡ bytes.now) }
+/// Decodes an intra picture, with no picture listed.
+fn decode_unlisted(alloc: Global, asked: Asked<'_>) -> Result<DecodedPicture, Stop>
+    requires intra { is_intra asked.code ≡ true }
+    requires sequence { IsSequence asked.sequence.now }
+    ensures { DecodesPayload asked.entry.payload.now asked.entry.code asked.entry.sequence.now [] result [] }
 {
-    let mut copy = Vec::new(alloc);
-    copy.extend_from_slice(bytes)?;
-    Ok(copy)
+    let mut refs = DecodingRefs::new();
+    decode_picture(alloc, asked.payload, asked.code, asked.sequence, &mut refs)
 }
 
 /// Decodes an intra picture by one worker; none where it is refused.
 pub(crate) fn decode_alone(
     alloc: Global,
-    payload: &[u8],
-    code: u8,
-    sequence: &Sequence,
-) -> Result<Option<DecodedAhead>, NoMemory>
-    requires intra { is_intra code ≡ true }
-    requires sequence { IsSequence sequence.now }
+    asked: Asked<'_>,
+) -> Result<Option<DecodedAlone>, NoMemory>
+    requires intra { is_intra asked.code ≡ true }
+    requires sequence { IsSequence asked.sequence.now }
 {
-    let mut refs = RefBuffer::new();
-    match decode_picture(alloc, payload, code, sequence, &mut refs) {
-        Err(Stop::NoMemory) => Err(NoMemory),
-        Err(Stop::Refused(_)) => Ok(None),
-        Ok(decoded) => {
-            let payload = copied(alloc, payload)?;
-            Ok(Some(DecodedAhead {
-                payload,
-                code,
-                sequence: *sequence,
-                decoded,
-            }))
-        }
+    let decoded = decode_unlisted(alloc, asked);
+    match DecodedAhead::try_new(alloc, asked.payload, asked.code, asked.sequence, decoded)? {
+        None => Ok(None),
+        Some(ahead) => Ok(Some(DecodedAlone { ahead })),
     }
 }
 
-/// Whether these are the same bytes.
-fn are_same(ours: &[u8], theirs: &[u8]) -> bool
-    ensures { result ≡ true → ours.now ≡ theirs.now }
-{
-    ours == theirs
-}
-
-/// Whether these are the same sequence.
-fn are_alike(ours: &Sequence, theirs: &Sequence) -> bool
-    ensures { result ≡ true → ours.now ≡ theirs.now }
-{
-    *ours == *theirs
-}
-
-impl DecodedAhead {
+impl DecodedAlone {
     /// What it was decoded to, if it is this picture that was decoded.
-    pub(crate) fn result_for(
-        self,
-        payload: &[u8],
-        code: u8,
-        sequence: &Sequence,
-    ) -> Option<DecodedPicture>
-        ensures { IfSome result (IsDecodedAlone payload.now code sequence.now) }
+    pub(crate) fn result_for(self, asked: Asked<'_>) -> Option<DecodedPicture>
+        ensures { IfSome result (IsDecodedAs asked.entry.payload.now asked.entry.code asked.entry.sequence.now []) }
     {
-        if self.code == code
-            && are_alike(&self.sequence, sequence)
-            && are_same(self.payload.as_slice(), payload)
-        {
-            return Some(self.decoded);
-        }
-        None
+        self.ahead
+            .result_for(asked.payload, asked.code, asked.sequence)
     }
 }

@@ -1,34 +1,39 @@
 ghost use Rattle.dirac_decode_picture.specs.Payload.{CanBeDecoded, DecodesPayload};
 
+use crate::asked::Asked;
 use crate::by_rows::decode_by_rows;
 use crate::crew::Crew;
 use crate::lot::Lot;
 use dirac_common::{RowGate, Stop, is_intra};
-use dirac_decode_picture::DecodedPicture;
-use dirac_refs::RefBuffer;
-use dirac_sequence_header::Sequence;
+use dirac_decode_picture::{DecodedPicture, DecodingRefs, decode_picture};
 use std::alloc::Global;
 use std::marker::Sync;
 use std::thread::Threads;
 
-/// Decodes a picture: an intra picture that was decoded ahead is at hand, any other is decoded by workers that share
-/// its rows.
+/// Decodes a picture. One that was decoded ahead is at hand; an intra picture is decoded with the other intra pictures
+/// that were read ahead, any other one with the inter pictures behind it up to the next reference picture, each by one
+/// worker. Where they are too few or too large, or it is refused, it is decoded by workers that share its rows, and by
+/// a single worker as `decode_picture` does.
 pub(crate) fn decode_at_hand<R: Threads + Sync, G: RowGate>(
     crew: &Crew<R, G>,
     lot: &Lot,
     alloc: Global,
-    payload: &[u8],
-    code: u8,
-    sequence: &Sequence,
-    refs: &RefBuffer,
+    asked: Asked<'_>,
+    refs: &mut DecodingRefs,
 ) -> Result<DecodedPicture, Stop>
-    requires { CanBeDecoded code sequence.now refs.now }
-    ensures { DecodesPayload payload.now code sequence.now refs.now result refs.now }
+    requires { CanBeDecoded asked.code asked.sequence.now refs.old }
+    ensures { DecodesPayload asked.entry.payload.now asked.entry.code asked.entry.sequence.now refs.old result
+        refs.new }
 {
-    if is_intra(code) {
-        if let Some(decoded) = lot.take(crew, alloc, payload, code, sequence) {
+    if crew.workers == 1 {
+        return decode_picture(alloc, asked.payload, asked.code, asked.sequence, refs);
+    }
+    if is_intra(asked.code) {
+        if let Some(decoded) = lot.take_intra(crew, alloc, asked) {
             return Ok(decoded);
         }
+    } else if let Some(decoded) = lot.take_inter(crew, alloc, asked, refs) {
+        return Ok(decoded);
     }
-    decode_by_rows(crew, alloc, payload, code, sequence, refs)
+    decode_by_rows(crew, alloc, asked, refs.list())
 }

@@ -8,10 +8,11 @@ ghost use Rattle.dirac_picture.specs.Grammar.{are_listed, is_picture, picture_re
 ghost use Rattle.dirac_picture.specs.Reading.{CanBeRead, ReadsThem};
 ghost use Rattle.dirac_decode_picture.specs.Payload.{CanBeDecoded, DecodesPayload};
 
+use crate::asked::Asked;
 use crate::crew::Crew;
 use dirac_bits::BitReader;
 use dirac_common::{RowGate, Stop};
-use dirac_decode_picture::DecodedPicture;
+use dirac_decode_picture::{DecodedPicture, rebuild_picture};
 use dirac_parameters::Transform;
 use dirac_picture::{CodedPicture, CodedResidual, read_picture_by};
 use dirac_refs::{RefBuffer, reference_of};
@@ -25,16 +26,15 @@ use std::thread::Threads;
 fn read_by_rows<R: Threads + Sync, G: RowGate>(
     crew: &Crew<R, G>,
     alloc: Global,
-    payload: &[u8],
-    code: u8,
-    sequence: &Sequence,
+    asked: Asked<'_>,
     refs: &RefBuffer,
 ) -> Result<CodedPicture, Stop>
-    requires code { IsTrue (is_picture code) }
-    requires sequence { IsSequence sequence.now }
-    ensures value { GivesOrStops result (picture_read code sequence.now refs.now payload.now) }
-    ensures place_inside { IfErr result (IsEarly (length payload.now)) }
-    ensures fits { IfOk result (FitsSequence code sequence.now) }
+    requires code { IsTrue (is_picture asked.code) }
+    requires sequence { IsSequence asked.sequence.now }
+    ensures value { GivesOrStops result
+        (picture_read asked.entry.code asked.entry.sequence.now refs.now asked.entry.payload.now) }
+    ensures place_inside { IfErr result (IsEarly (length asked.entry.payload.now)) }
+    ensures fits { IfOk result (FitsSequence asked.entry.code asked.entry.sequence.now) }
     ensures listed { IfOk result (λ p. IsTrue (are_listed refs.now p.header)) }
 {
     let (rt, workers, gate) = (crew.rt, crew.workers, crew.gate);
@@ -44,29 +44,52 @@ fn read_by_rows<R: Threads + Sync, G: RowGate>(
         requires { IsSync R.row × IsSync G.row × (1 ≤ workers) × (workers ≤ 64) × CanBeRead sequence.now transform }
         ensures { ReadsThem sequence.now transform r.old result r.new }
     { read_planes_rows(rt, alloc, r, transform, sequence, workers, gate) };
-    read_picture_by(&planes, alloc, payload, code, sequence, refs)
+    read_picture_by(
+        &planes,
+        alloc,
+        asked.payload,
+        asked.code,
+        asked.sequence,
+        refs,
+    )
 }
 
 /// Reads a picture from the payload of its unit and rebuilds it, both by workers that share its rows.
 pub(crate) fn decode_by_rows<R: Threads + Sync, G: RowGate>(
     crew: &Crew<R, G>,
     alloc: Global,
-    payload: &[u8],
-    code: u8,
-    sequence: &Sequence,
+    asked: Asked<'_>,
     refs: &RefBuffer,
 ) -> Result<DecodedPicture, Stop>
-    requires { CanBeDecoded code sequence.now refs.now }
-    ensures { DecodesPayload payload.now code sequence.now refs.now result refs.now }
+    requires { CanBeDecoded asked.code asked.sequence.now refs.now }
+    ensures { DecodesPayload asked.entry.payload.now asked.entry.code asked.entry.sequence.now refs.now result
+        refs.now }
 {
-    let coded = read_by_rows(crew, alloc, payload, code, sequence, refs)?;
+    let coded = read_by_rows(crew, alloc, asked, refs)?;
     let (rt, workers, gate) = (crew.rt, crew.workers, crew.gate);
-    let picture = rebuild_rows(rt, alloc, &coded, sequence, refs, workers, gate)?;
-    let reference = reference_of(alloc, code, &picture)?;
+    let picture = rebuild_rows(rt, alloc, &coded, asked.sequence, refs, workers, gate)?;
+    let reference = reference_of(alloc, asked.code, &picture)?;
     Ok(DecodedPicture {
-        code,
+        code: asked.code,
         header: coded.header,
         picture,
         reference,
     })
+}
+
+/// Reads a picture from the payload of its unit, the bands of its planes by workers, and rebuilds it on one thread,
+/// with the half samples that are kept.
+pub(crate) fn decode_reading_by_rows<R: Threads + Sync, G: RowGate>(
+    crew: &Crew<R, G>,
+    alloc: Global,
+    asked: Asked<'_>,
+    refs: &RefBuffer,
+) -> Result<DecodedPicture, Stop>
+    requires { CanBeDecoded asked.code asked.sequence.now refs.now }
+    ensures { DecodesPayload asked.entry.payload.now asked.entry.code asked.entry.sequence.now refs.now result
+        refs.now }
+{
+    let coded = read_by_rows(crew, alloc, asked, refs)?;
+    let decoded = rebuild_picture(alloc, &coded, asked.sequence, refs)?;
+    Ok(decoded)
 }

@@ -1,4 +1,6 @@
-ghost use Rattle.std.specs.Prelude.{◌≤◌};
+ghost use Rattle.std.specs.Prelude.{◌≡◌, ◌<◌, ◌≤◌, true};
+
+use dirac_sequence_header::Sequence;
 
 /// Workers that share the work on a picture or on pictures, and the gate that each passes before a row.
 #[derive(Drop)]
@@ -17,4 +19,18 @@ impl<'a, R, G> Crew<'a, R, G> {
     {
         Crew { rt, workers, gate }
     }
+}
+
+/// The most luma samples of a picture that is decoded ahead: all that are decoded together are held at once.
+const MOST_LUMA_SAMPLES_AHEAD: u64 = 8_388_608;
+
+/// Whether so many pictures of this sequence are sooner decoded side by side than by workers that share the rows of
+/// each, and are small enough to be held at once.
+pub(crate) fn are_enough<R, G>(crew: &Crew<R, G>, pictures: usize, sequence: &Sequence) -> bool
+    ensures { result ≡ true → 1 < pictures }
+{
+    pictures >= 2
+        && pictures > crew.workers as usize / 2
+        && u64::from(sequence.width) * u64::from(sequence.picture_height())
+            <= MOST_LUMA_SAMPLES_AHEAD
 }

@@ -1,34 +1,33 @@
-//! Intra pictures of units that were read ahead, decoded several at once, each by one worker.
+//! Units that were read ahead, and their intra pictures, decoded several at once, each by one worker. Their inter
+//! pictures are decoded by `run`.
 
-ghost use Rattle.std.specs.Prelude.{◌≡◌, ◌<◌, ◌≤◌, true, length, IfSome};
+ghost use Rattle.std.specs.Prelude.{◌≡◌, ◌<◌, ◌≤◌, [], true, length, IfSome, Ok};
 ghost use Rattle.dirac_sequence_header.specs.Lawful.{IsSequence};
 ghost use Rattle.dirac_picture.specs.Grammar.{is_intra as is_intra_code};
-ghost use Rattle.dirac_pardec.specs.Alone.{IsDecodedAlone};
+ghost use Rattle.dirac_decode_picture.specs.Ahead.{IsDecodedAs};
+ghost use Rattle.dirac_decode_picture.specs.Payload.{DecodesPayload};
+ghost use Rattle.dirac_pardec.specs.Run.{CanAllBeDecoded};
 
-use crate::alone::{DecodedAhead, copied, decode_alone};
-use crate::crew::Crew;
+use crate::alone::{DecodedAlone, decode_alone};
+use crate::asked::Asked;
+use crate::crew::{Crew, are_enough};
+use crate::front::{front_of, units_from};
+use crate::halves::keep_halves_by_rows;
+use crate::run::decode_run;
 use dirac_ahead::Look;
 use dirac_common::{END_OF_SEQUENCE, NoMemory, RowGate, is_intra};
-use dirac_decode_picture::DecodedPicture;
+use dirac_decode_picture::{DecodedPicture, DecodingRefs};
 use dirac_rows::map_rows;
 use dirac_sequence_header::Sequence;
-use dirac_units::{PARSE_INFO_LENGTH, read_info};
 use std::alloc::Global;
 use std::cell::Cell;
 use std::marker::Sync;
 use std::thread::Threads;
 
-/// The most luma samples of a picture that is decoded ahead: all that are decoded together are held at once.
-const MOST_LUMA_SAMPLES_AHEAD: u64 = 8_388_608;
-
-/// The most pictures that are decoded together.
-pub(crate) const MOST_PICTURES_AHEAD: u32 = 8;
-
 /// Pictures that were decoded ahead, the next one last; none in place of one that is refused.
-type Kept = Vec<Option<DecodedAhead>>;
+type Kept = Vec<Option<DecodedAlone>>;
 
-/// What was read ahead: its units, until they are looked into, and then what they were decoded to and isn't asked for
-/// yet.
+/// What was read ahead: its units, and what their intra pictures were decoded to and isn't asked for yet.
 #[derive(Drop)]
 pub(crate) struct Lot {
     units: Cell<Option<Vec<u8>>>,
@@ -37,42 +36,11 @@ pub(crate) struct Lot {
 
 impl Look for Lot {
     fn look(&self, alloc: Global, units: &[u8]) {
-        match copied(alloc, units) {
+        match Vec::from_slice(alloc, units) {
             Ok(units) => self.units.set(Some(units)),
             Err(_) => self.units.set(None),
         }
     }
-}
-
-/// A unit at the front of bytes, and the bytes behind it.
-#[derive(Clone, Copy, Drop)]
-struct Front<'a> {
-    code: u8,
-    payload: &'a [u8],
-    behind: &'a [u8],
-}
-
-/// The unit at the front of these bytes; none where no whole unit stands there.
-fn front_of<'a>(bytes: &'a [u8]) -> Option<Front<'a>>
-    ensures { IfSome result (λ front. length front.behind.now < length bytes.now) }
-{
-    if bytes.len() < PARSE_INFO_LENGTH {
-        return None;
-    }
-    let (header, rest) = bytes.split_at(PARSE_INFO_LENGTH);
-    let Ok(info) = read_info(header) else {
-        return None;
-    };
-    let length = info.span() - PARSE_INFO_LENGTH as u64;
-    if length > rest.len() as u64 {
-        return None;
-    }
-    let (payload, behind) = rest.split_at(length as usize);
-    Some(Front {
-        code: info.code,
-        payload,
-        behind,
-    })
 }
 
 /// The payload of an intra picture, and its parse code.
@@ -113,39 +81,40 @@ fn decode_units<R: Threads + Sync, G: RowGate>(
     requires sequence { IsSequence sequence.now }
 {
     let last = (units.len() - 1).min(63) as u32;
-    let work = |row: u32| -> Result<Option<DecodedAhead>, NoMemory>
+    let work = |row: u32| -> Result<Option<DecodedAlone>, NoMemory>
         requires { IsSequence sequence.now × (row ≤ last) × (last < length units.now) }
     {
-        let unit = &units[(last - row) as usize];
-        decode_alone(alloc, unit.payload, unit.code, sequence)
+        let unit = units[(last - row) as usize];
+        let asked = Asked {
+            payload: unit.payload,
+            code: unit.code,
+            sequence,
+        };
+        decode_alone(alloc, asked)
     };
     let workers = crew.workers.min(last + 1);
     map_rows(crew.rt, alloc, last + 1, workers, crew.gate, &work)
 }
 
-/// Decodes the intra pictures among these units side by side. None where there are too few of them, so that the workers
-/// decode a picture sooner together, where they are too large, and where there is no memory for that many.
+/// Decodes the intra pictures among these units side by side, from the one with this parse code and payload on. None
+/// where there are too few of them, so that the workers decode a picture sooner together, and where they are too large.
 fn decode_lot<R: Threads + Sync, G: RowGate>(
     crew: &Crew<R, G>,
     alloc: Global,
     units: &[u8],
-    sequence: &Sequence,
-) -> Option<Kept>
-    requires { IsSequence sequence.now }
+    asked: Asked<'_>,
+) -> Result<Option<Kept>, NoMemory>
+    requires { IsSequence asked.sequence.now }
 {
-    if u64::from(sequence.width) * u64::from(sequence.picture_height()) > MOST_LUMA_SAMPLES_AHEAD {
-        return None;
-    }
-    let Ok(pictures) = intra_units(alloc, units) else {
-        return None;
+    let Some(units) = units_from(units, asked.payload, asked.code) else {
+        return Ok(None);
     };
-    if pictures.len() < 2 || pictures.len() <= crew.workers as usize / 2 {
-        return None;
+    let pictures = intra_units(alloc, units)?;
+    if !are_enough(crew, pictures.len(), asked.sequence) {
+        return Ok(None);
     }
-    match decode_units(crew, alloc, pictures.as_slice(), sequence) {
-        Ok(kept) => Some(kept),
-        Err(_) => None,
-    }
+    let kept = decode_units(crew, alloc, pictures.as_slice(), asked.sequence)?;
+    Ok(Some(kept))
 }
 
 impl Lot {
@@ -157,14 +126,16 @@ impl Lot {
         }
     }
 
-    /// What is kept; where nothing is, the intra pictures of the units that were read ahead are decoded now.
+    /// What is kept; where nothing is, the intra pictures of the units that were read ahead are decoded now, from the
+    /// one with this parse code and payload on. Where there is no memory for that many, none of these units is looked
+    /// at again.
     fn at_hand<R: Threads + Sync, G: RowGate>(
         &self,
         crew: &Crew<R, G>,
         alloc: Global,
-        sequence: &Sequence,
+        asked: Asked<'_>,
     ) -> Option<Kept>
-        requires { IsSequence sequence.now }
+        requires { IsSequence asked.sequence.now }
     {
         if let Some(kept) = self.kept.replace(None) {
             if !kept.is_empty() {
@@ -172,26 +143,56 @@ impl Lot {
             }
         }
         let units = self.units.replace(None)?;
-        decode_lot(crew, alloc, units.as_slice(), sequence)
+        let Ok(kept) = decode_lot(crew, alloc, units.as_slice(), asked) else {
+            return None;
+        };
+        self.units.set(Some(units));
+        kept
     }
 
     /// What an intra picture was decoded to, if it is the next one that was decoded ahead, or is decoded now with those
     /// behind it. Where it is another one, nothing is kept.
-    pub(crate) fn take<R: Threads + Sync, G: RowGate>(
+    pub(crate) fn take_intra<R: Threads + Sync, G: RowGate>(
         &self,
         crew: &Crew<R, G>,
         alloc: Global,
-        payload: &[u8],
-        code: u8,
-        sequence: &Sequence,
+        asked: Asked<'_>,
     ) -> Option<DecodedPicture>
-        requires { IsSequence sequence.now }
-        ensures { IfSome result (IsDecodedAlone payload.now code sequence.now) }
+        requires { IsSequence asked.sequence.now }
+        ensures { IfSome result (IsDecodedAs asked.entry.payload.now asked.entry.code asked.entry.sequence.now []) }
     {
-        let mut kept = self.at_hand(crew, alloc, sequence)?;
+        let mut kept = self.at_hand(crew, alloc, asked)?;
         let next = kept.pop()?;
-        let decoded = next?.result_for(payload, code, sequence)?;
+        let decoded = next?.result_for(asked)?;
         self.kept.set(Some(kept));
         Some(decoded)
+    }
+
+    /// What an inter picture was decoded to, if it is the next one that was decoded ahead, or is decoded now with those
+    /// behind it. Where there is no memory for that many, none of these units is looked at again, and the half samples
+    /// that were kept for them are given up: workers that share the rows of a picture make their own.
+    pub(crate) fn take_inter<R: Threads + Sync, G: RowGate>(
+        &self,
+        crew: &Crew<R, G>,
+        alloc: Global,
+        asked: Asked<'_>,
+        refs: &mut DecodingRefs,
+    ) -> Option<DecodedPicture>
+        requires { CanAllBeDecoded asked.sequence.now refs.old }
+        ensures value { IfSome result
+            (λ d. DecodesPayload asked.entry.payload.now asked.entry.code asked.entry.sequence.now refs.old (Ok d)
+            refs.old) }
+        ensures kept { refs.new ≡ refs.old }
+    {
+        if let Some(decoded) = refs.take_ahead(asked.payload, asked.code, asked.sequence) {
+            return Some(decoded);
+        }
+        let units = self.units.replace(None)?;
+        let Ok(decoded) = decode_run(crew, alloc, units.as_slice(), asked, refs) else {
+            keep_halves_by_rows(crew, alloc, &[], refs);
+            return None;
+        };
+        self.units.set(Some(units));
+        decoded
     }
 }

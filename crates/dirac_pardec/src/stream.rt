@@ -6,24 +6,27 @@ ghost use Rattle.dirac_content.specs.Leaving.{IsBrokenOff, IsFrontOfRead};
 ghost use Rattle.dirac_decode_picture.specs.Payload.{CanBeDecoded, DecodesPayload};
 ghost use Rattle.dirac_decode.specs.Decoded.{IfDone, IfTally, IsDecodedStream};
 
+use crate::asked::Asked;
 use crate::at_hand::decode_at_hand;
 use crate::crew::Crew;
-use crate::lot::{Lot, MOST_PICTURES_AHEAD};
+use crate::lot::Lot;
 use dirac_ahead::{Ahead, Begun, Lent, Plan};
 use dirac_common::{RowGate, Stop};
 use dirac_decode::{Decoded, decode_stream_by};
-use dirac_decode_picture::DecodedPicture;
+use dirac_decode_picture::{DecodedPicture, DecodingRefs};
 use dirac_io::{Sink, Source};
-use dirac_refs::{MOST_REFERENCES, RefBuffer};
+use dirac_refs::MOST_REFERENCES;
 use dirac_sequence_header::Sequence;
 use std::alloc::Global;
 use std::marker::{Brand, Sync};
 use std::thread::Threads;
 
-/// Decodes a whole stream, as `decode_stream`, by that many workers. Units are read ahead, with at most eight pictures
-/// and no more than there are workers. Up to the first end unit among them the intra pictures are decoded several at
-/// once, a worker each, where they are at least two, more than half as many as there are workers, and of at most 2^23
-/// luma samples. All other pictures are read and rebuilt as `read_planes_rows` and `rebuild_rows` do.
+/// Decodes a whole stream, as `decode_stream`, by that many workers. From 2 to 15 workers units are read ahead, with
+/// twice as many pictures as there are workers, eight at most. Of these the intra pictures up to the first end unit are
+/// decoded several at once, a worker each, and so are inter pictures up to the next reference picture, that one too,
+/// where they are at least two, more than half as many as there are workers, and of at most 2^23 luma samples. All
+/// other pictures are read and rebuilt as `read_planes_rows` and `rebuild_rows` do, and by a single worker as
+/// `decode_stream` does.
 pub fn decode_rows<R: Threads + Sync, S: Source, K: Sink, G: RowGate>(
     rt: &R,
     alloc: Global,
@@ -69,6 +72,18 @@ struct Finished<'a, S> {
     source: &'a mut S,
 }
 
+/// The most pictures that are read ahead.
+const MOST_PICTURES_AHEAD: u32 = 8;
+
+/// How many pictures are read ahead for so many workers: one where they are never decoded side by side, since one
+/// worker gains nothing by it, and for sixteen even eight pictures are too few.
+fn pictures_ahead(workers: u32) -> u32 {
+    if workers == 1 || workers >= 2 * MOST_PICTURES_AHEAD {
+        return 1;
+    }
+    (2 * workers).min(MOST_PICTURES_AHEAD)
+}
+
 /// The most bytes that are read ahead.
 const MOST_AHEAD: usize = 1 << 25;
 
@@ -99,15 +114,22 @@ fn decode_reading_ahead<'a, R: Threads + Sync, S: Source, K: Sink, G: RowGate, B
     ensures reads { S.faults lent.entry.source.now ≤ S.faults result.source.now }
     ensures writes { K.faults out.old ≤ K.faults out.new }
 {
-    let decode = |alloc: Global, payload: &[u8], code: u8, sequence: &Sequence, refs: &mut RefBuffer| -> Result<
+    let decode = |alloc: Global, payload: &[u8], code: u8, sequence: &Sequence, refs: &mut DecodingRefs| -> Result<
         DecodedPicture,
         Stop,
     >
         requires { IsSync R.row × IsSync G.row × CanBeDecoded code sequence.now refs.old }
         ensures { DecodesPayload payload.now code sequence.now refs.old result refs.new }
-    { decode_at_hand(crew, lot, alloc, payload, code, sequence, refs) };
+    {
+        let asked = Asked {
+            payload,
+            code,
+            sequence,
+        };
+        decode_at_hand(crew, lot, alloc, asked, refs)
+    };
     let plan = Plan {
-        pictures: crew.workers.min(MOST_PICTURES_AHEAD) as usize,
+        pictures: pictures_ahead(crew.workers) as usize,
         most: MOST_AHEAD,
     };
     let mut ahead = Ahead::<S, Lot, B>::new(alloc, lent, lot, plan);

@@ -17,7 +17,8 @@ pub(crate) struct MotionRows<'a> {
 }
 
 impl PredictsRows for MotionRows<'_> {
-    ghost lawful = { λ r. IsPredictable (compensation_of r.motion) × (r.weights ≡ columns_of (compensation_of r.motion)) };
+    ghost lawful = { λ r. IsPredictable (compensation_of r.motion)
+        × (r.weights ≡ columns_of (compensation_of r.motion)) };
 
     ghost predicted = { λ r. predicted_plane (compensation_of r.motion) };
 

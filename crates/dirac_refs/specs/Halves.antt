@@ -1,7 +1,9 @@
 -- The half samples of a reference picture, which are kept beside it.
-use Rattle.std.specs.Prelude.{◌≡◌, ◌≤◌}
+use Rattle.std.specs.Prelude.{◌≡◌, ◌≤◌, Result, IfOk}
+use Rattle.std.specs.Borrow.{Bor}
 use Rattle.std.specs.List.{All}
 use Rattle.dirac_common.specs.declared.limits.TheConstants.{LARGEST_SIDE}
+use Rattle.dirac_common.specs.declared.memory.NoMemory.{NoMemory}
 use Rattle.dirac_common.specs.declared.picture.Picture.{Picture}
 use Rattle.dirac_common.specs.Table.{Table}
 use Rattle.dirac_upconvert.specs.HalfSamples.{IsSample, half}
@@ -29,3 +31,10 @@ pub record AreHalves (p : Picture) (h : Halves) : Type 0 where
   pub y : h.y ≡ up_of p.y
   pub u : h.u ≡ up_of p.u
   pub v : h.v ≡ up_of p.v
+
+-- a call that may be made on each picture that can be doubled, and makes its half samples
+abbrev pub DoublesPictures : (Bor Picture → Type 0) → (Bor Picture → Result Halves NoMemory → Type 0) → Type 0
+DoublesPictures pre post =
+    ((picture : Bor Picture) → CanBeDoubled picture.now → pre picture)
+    × ((picture : Bor Picture) (result : Result Halves NoMemory) → CanBeDoubled picture.now → post picture result
+    → IfOk result (AreHalves picture.now))

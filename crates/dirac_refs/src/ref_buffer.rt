@@ -1,13 +1,13 @@
-ghost use Rattle.std.specs.Prelude.{◌≡◌, ◌≤◌, [], length};
+ghost use Rattle.std.specs.Prelude.{◌≡◌, ◌≤◌, [], length, IfOk};
 ghost use Rattle.std.specs.List.{All};
 ghost use Rattle.std.specs.Option.{option_copied};
-ghost use Rattle.dirac_refs.specs.Halves.{CanBeDoubled};
+ghost use Rattle.dirac_refs.specs.Halves.{AreHalves, CanBeDoubled, DoublesPictures};
 ghost use Rattle.dirac_refs.specs.References as references;
 ghost use Rattle.dirac_refs.specs.References.{append, committed, listed, without};
 
 use crate::bounded::Bounded;
-use crate::reference::Reference;
-use dirac_common::Picture;
+use crate::reference::{Halves, Reference, halves_of};
+use dirac_common::{NoMemory, Picture};
 use std::alloc::Global;
 use std::marker::Model;
 
@@ -81,9 +81,31 @@ impl RefBuffer {
         requires { All CanBeDoubled self.old }
         ensures { self.new ≡ self.old }
     {
+        let double = |picture: &Picture| -> Result<Halves, NoMemory>
+            requires { CanBeDoubled picture.now }
+            ensures { IfOk result (AreHalves picture.now) }
+        { halves_of(alloc, picture) };
+        match second {
+            None => self.keep_halves_by(&double, &[first]),
+            Some(second) => self.keep_halves_by(&double, &[first, second]),
+        }
+    }
+
+    /// Keeps the half samples of the pictures of these numbers, and of no other picture; `double` makes those that
+    /// aren't kept yet. Where memory is refused for one of them, and of a plane above `MOST_KEPT_SAMPLES`, none are
+    /// kept. The list stays as it is.
+    pub fn keep_halves_by<F: Fn(&Picture) -> Result<Halves, NoMemory>>(
+        &mut self,
+        double: &F,
+        numbers: &[u32],
+    )
+        requires doubles { DoublesPictures (F.pre double.now) (F.post double.now) }
+        requires can_be_doubled { All CanBeDoubled self.old }
+        ensures { self.new ≡ self.old }
+    {
         for _ in 0..self.list.len() {
             let reference = self.list.remove(0);
-            self.list.push(kept(alloc, first, second, reference));
+            self.list.push(kept(double, numbers, reference));
         }
     }
 
@@ -113,13 +135,17 @@ impl RefBuffer {
 }
 
 /// A reference with its half samples if it is one of the pictures of these numbers, else without.
-fn kept(alloc: Global, first: u32, second: Option<u32>, reference: Reference) -> Reference
-    requires { CanBeDoubled reference }
+fn kept<F: Fn(&Picture) -> Result<Halves, NoMemory>>(
+    double: &F,
+    numbers: &[u32],
+    reference: Reference,
+) -> Reference
+    requires doubles { DoublesPictures (F.pre double.now) (F.post double.now) }
+    requires can_be_doubled { CanBeDoubled reference }
     ensures { result ≡ reference }
 {
-    let number = reference.number();
-    if number == first || Some(number) == second {
-        reference.doubled(alloc)
+    if numbers.contains(&reference.number()) {
+        reference.doubled_by(double)
     } else {
         reference.bare()
     }

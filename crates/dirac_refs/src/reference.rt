@@ -1,6 +1,6 @@
 ghost use Rattle.std.specs.Prelude.{◌≡◌, IfOk};
 ghost use Rattle.std.specs.Option.{ForSome, option_copied};
-ghost use Rattle.dirac_refs.specs.Halves.{AreHalves, IsDoublable};
+ghost use Rattle.dirac_refs.specs.Halves.{AreHalves, CanBeDoubled, DoublesPictures, IsDoublable};
 
 use dirac_common::{NoMemory, Picture, Plane};
 use dirac_upconvert::{UpPlane, upconvert};
@@ -46,11 +46,9 @@ fn doubled(alloc: Global, plane: &Plane) -> Result<UpPlane, NoMemory>
     upconvert(alloc, plane)
 }
 
-/// All planes of a picture with their half samples.
-fn halves_of(alloc: Global, picture: &Picture) -> Result<Halves, NoMemory>
-    requires y { IsDoublable picture.now.y }
-    requires u { IsDoublable picture.now.u }
-    requires v { IsDoublable picture.now.v }
+/// All planes of a picture with their half samples, made one after another.
+pub(crate) fn halves_of(alloc: Global, picture: &Picture) -> Result<Halves, NoMemory>
+    requires { CanBeDoubled picture.now }
     ensures { IfOk result (AreHalves picture.now) }
 {
     Ok(Halves {
@@ -104,17 +102,19 @@ impl Reference {
         Reference::new(self.picture)
     }
 
-    /// The same reference with its half samples, where they take little room and memory is there.
-    pub(crate) fn doubled(self, alloc: Global) -> Reference
-        requires y { IsDoublable self.y }
-        requires u { IsDoublable self.u }
-        requires v { IsDoublable self.v }
+    /// The same reference with its half samples, where they take little room and memory is there; `double` makes them.
+    pub(crate) fn doubled_by<F: Fn(&Picture) -> Result<Halves, NoMemory>>(
+        self,
+        double: &F,
+    ) -> Reference
+        requires doubles { DoublesPictures (F.pre double.now) (F.post double.now) }
+        requires can_be_doubled { CanBeDoubled self }
         ensures { result ≡ self }
     {
         if self.halves.is_some() || !is_small(&self.picture.y) {
             return self;
         }
-        match halves_of(alloc, &self.picture) {
+        match double(&self.picture) {
             Err(NoMemory) => self,
             Ok(halves) => Reference {
                 picture: self.picture,

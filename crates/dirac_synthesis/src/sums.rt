@@ -1,5 +1,5 @@
-//! The samples of a plane, each the sum of its residual and what is predicted for it. The predictions are made some rows
-//! at a time, and their rows are summed and clipped before the next ones are made.
+//! The samples of a plane, each the sum of its residual and what is predicted for it. The predictions are made some
+//! rows at a time, and their rows are summed and clipped before the next ones are made.
 ghost use Rattle.std.specs.Prelude.{◌≡◌, ◌*◌, ◌^◌, ◌<◌, ◌≤◌, length, unsigned_abs, IfOk};
 ghost use Rattle.std.specs.List.{All};
 ghost use Rattle.dirac_common.specs.Table.{Table as TheTable};

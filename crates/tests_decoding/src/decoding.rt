@@ -412,21 +412,26 @@ fn shows_pictures_before_the_input_ends(rt: HostRuntime) -> Result<(), Fail> {
     Ok(())
 }
 
-// Two workers read two pictures ahead: up to the ends of pictures 1, 3 and 5, behind which the end unit stands. The
-// first picture leaves while the fifth is taken.
+// The first picture leaves while the fifth is taken. One worker and sixteen read no further than that, so the sixth and
+// the end unit are left. Two workers read four pictures ahead, and then two and the end.
 #[test]
-fn reads_no_more_pictures_ahead_than_there_are_workers(rt: HostRuntime) -> Result<(), Fail> {
+fn reads_as_many_pictures_ahead_as_its_workers_need(rt: HostRuntime) -> Result<(), Fail> {
     let alloc = rt.alloc();
     let bytes = six_pictures(alloc)?;
     let outside = Outside {
         writes: &[0],
         ..pieces(4096)
     };
+    let mut rest = [0u8; 64];
+    for workers in ["--workers=1", "--workers=16"] {
+        let mut left = decoded(&rt, alloc, &["pardecode", workers], &bytes, &outside)?;
+        assert_eq!(rt; left.ended, Ended::WriteFault);
+        assert_eq!(rt; left.source.read(&mut rest), Got::Bytes(43), "{workers}");
+        assert_eq!(rt; rest[4], 0x08, "{workers}");
+    }
     let mut left = decoded(&rt, alloc, &["pardecode", "--workers=2"], &bytes, &outside)?;
     assert_eq!(rt; left.ended, Ended::WriteFault);
-    let mut rest = [0u8; 64];
-    assert_eq!(rt; left.source.read(&mut rest), Got::Bytes(13));
-    assert_eq!(rt; rest[4], 0x10);
+    assert_eq!(rt; left.source.read(&mut rest), Got::End);
     Ok(())
 }
 

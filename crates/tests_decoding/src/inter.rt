@@ -33,6 +33,19 @@ fn inter(alloc: Global, next: u32, number: u8, offsets: &[u8]) -> Result<Vec<u8>
     )
 }
 
+// The unit of such a picture that no other one refers to; `reference` is the number of its reference, less its own, as
+// it is coded.
+fn between(alloc: Global, next: u32, number: u8, reference: u8) -> Result<Vec<u8>, Fail> {
+    joined(
+        alloc,
+        &[
+            &header(0x09, next, 0),
+            &[0, 0, 0, number, reference],
+            &STREAM[68..82],
+        ],
+    )
+}
+
 // Grey pictures, one after another.
 fn grey_pictures(alloc: Global, count: usize) -> Result<Vec<u8>, Fail> {
     let mut raw = Vec::new(alloc);
@@ -73,6 +86,42 @@ fn looks_references_up_before_anything_changes(rt: HostRuntime) -> Result<(), Fa
     let two = grey_pictures(alloc, 2)?;
     let line = "pictures=2 references=1\n";
     shows(&rt, alloc, bytes.as_slice(), missing, two.as_slice(), line)
+}
+
+#[test]
+fn decodes_what_refers_to_the_same_pictures(rt: HostRuntime) -> Result<(), Fail> {
+    let alloc = rt.alloc();
+    // both refer to picture 0; then the second one to picture 1, which isn't listed; then its payload ends too early
+    let first = between(alloc, 32, 1, 0x30)?;
+    let second = between(alloc, 32, 2, 0x70)?;
+    let start = joined(alloc, &[&STREAM[..50], &first])?;
+    let bytes = joined(alloc, &[&start, &second, &header(0x10, 0, 32)])?;
+    let three = grey_pictures(alloc, 3)?;
+    let line = "pictures=3 references=1\n";
+    shows(&rt, alloc, &bytes, Ended::Done, three.as_slice(), line)?;
+
+    // an intra picture that no other one refers to stands between them
+    let intra = joined(
+        alloc,
+        &[&header(0x08, 30, 0), &[0, 0, 0, 2, 0x90], &[0x80; 12]],
+    )?;
+    let second = between(alloc, 32, 3, 0x0C)?;
+    let bytes = joined(alloc, &[&start, &intra, &second, &header(0x10, 0, 32)])?;
+    let four = grey_pictures(alloc, 4)?;
+    let line = "pictures=4 references=1\n";
+    shows(&rt, alloc, &bytes, Ended::Done, four.as_slice(), line)?;
+
+    let two = grey_pictures(alloc, 2)?;
+    let line = "pictures=2 references=1\n";
+    let second = between(alloc, 32, 2, 0x30)?;
+    let bytes = joined(alloc, &[&start, &second, &header(0x10, 0, 32)])?;
+    let missing = faulty(3, 95, Cause::MissingReference);
+    shows(&rt, alloc, &bytes, missing, two.as_slice(), line)?;
+
+    let second = joined(alloc, &[&header(0x09, 18, 32), &[0, 0, 0, 2, 0x70]])?;
+    let bytes = joined(alloc, &[&start, &second, &header(0x10, 0, 18)])?;
+    let short = faulty(3, 100, Cause::UnitShort);
+    shows(&rt, alloc, &bytes, short, two.as_slice(), line)
 }
 
 #[test]

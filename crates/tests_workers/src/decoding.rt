@@ -1,4 +1,4 @@
-use crate::encoding::{encoded, encoded_as, sized};
+use crate::encoding::{encoded, encoded_as, encoded_many, sized};
 use crate::gates::HoldsEachCall;
 use dirac_common::{NoMemory, OpenGate};
 use dirac_decode::{Decoded, Tally};
@@ -81,6 +81,31 @@ fn two_workers_decode_a_picture_each(rt: HostRuntime) -> Result<(), NoMemory> {
         assert_eq!(rt; ended, Decoded::Done(tally));
         assert_eq!(rt; out.taken(), made.shown.taken());
         assert_eq!(rt; gate.calls(), Some(1), "row {held} held");
+    }
+    Ok(())
+}
+
+// An intra picture and the picture behind it that refers to it have three calls each. The two between them, which refer
+// to both, have three together: the half samples of either reference, and then each is decoded whole by one of the
+// workers.
+#[test]
+fn two_workers_decode_what_refers_to_the_same_pictures(rt: HostRuntime) -> Result<(), NoMemory> {
+    let alloc = rt.alloc();
+    let settings = sized(320, 208);
+    let made = encoded_many(&rt, alloc, &settings, 4, &OpenGate)?;
+    for held in [0, 1] {
+        let gate = HoldsEachCall::new(held);
+        let bytes = Vec::from_slice(alloc, made.stream.taken())?;
+        let mut source = MemSource::new(bytes, 4096, Vec::new(alloc));
+        let mut out = MemSink::new(alloc, 4096, Vec::new(alloc));
+        let ended = decode_rows(&rt, alloc, &mut source, &mut out, 2, &gate);
+        let tally = Tally {
+            pictures: 4,
+            references: 2,
+        };
+        assert_eq!(rt; ended, Decoded::Done(tally));
+        assert_eq!(rt; out.taken(), made.shown.taken());
+        assert_eq!(rt; gate.calls(), Some(9), "row {held} held");
     }
     Ok(())
 }

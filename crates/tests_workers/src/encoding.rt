@@ -14,13 +14,13 @@ pub struct Made {
     pub shown: MemSink,
 }
 
-// Two raw pictures of this size, 4:2:0: the second is the first a little lower, and brighter.
-fn moving(alloc: Global, width: u32, height: u32) -> Result<Vec<u8>, NoMemory> {
+// Raw pictures of this size, 4:2:0: each is the one before a little lower, and brighter.
+fn moving(alloc: Global, width: u32, height: u32, count: u32) -> Result<Vec<u8>, NoMemory> {
     let mut raw = Vec::new(alloc);
-    for number in 0..2u32 {
+    for number in 0..count {
         for place in 0..width.saturating_mul(height).saturating_mul(3) / 2 {
-            let byte = place.wrapping_mul(place).wrapping_mul(7) / 13 + number.wrapping_mul(19);
-            raw.push((byte % 256) as u8)?;
+            let byte = place.wrapping_mul(place).wrapping_mul(7) / 13;
+            raw.push((byte.wrapping_add(number.wrapping_mul(19)) % 256) as u8)?;
         }
     }
     Ok(raw)
@@ -34,7 +34,7 @@ pub fn sized(width: u32, height: u32) -> Settings {
     settings
 }
 
-// Encodes them; a picture of 40 rows has two rows of superblocks, one of 72 rows has three.
+// Encodes two of them; a picture of 40 rows has two rows of superblocks, one of 72 rows has three.
 pub fn encoded<R: Threads + Sync, G: RowGate>(
     rt: &R,
     alloc: Global,
@@ -48,17 +48,28 @@ pub fn encoded<R: Threads + Sync, G: RowGate>(
     encoded_as(rt, alloc, &settings, gate)
 }
 
-// Encodes them by these settings.
+// Encodes two of them by these settings.
 pub fn encoded_as<R: Threads + Sync, G: RowGate>(
     rt: &R,
     alloc: Global,
     settings: &Settings,
     gate: &G,
 ) -> Result<Made, NoMemory> {
+    encoded_many(rt, alloc, settings, 2, gate)
+}
+
+// Encodes that many of them by these settings.
+pub fn encoded_many<R: Threads + Sync, G: RowGate>(
+    rt: &R,
+    alloc: Global,
+    settings: &Settings,
+    count: u32,
+    gate: &G,
+) -> Result<Made, NoMemory> {
     let Ok(()) = settings.check() else {
         return Err(NoMemory);
     };
-    let raw = moving(alloc, settings.width, settings.height)?;
+    let raw = moving(alloc, settings.width, settings.height, count)?;
     let mut source = MemSource::new(raw, 4096, Vec::new(alloc));
     let mut stream = MemSink::new(alloc, 4096, Vec::new(alloc));
     let mut shown = MemSink::new(alloc, 4096, Vec::new(alloc));

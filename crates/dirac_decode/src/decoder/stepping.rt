@@ -14,9 +14,8 @@ use crate::decoder::Decoder;
 use crate::in_turn::decode_in_turn;
 use crate::step::{Turn, turn_of};
 use dirac_common::{Picture, Stop};
-use dirac_decode_picture::DecodedPicture;
+use dirac_decode_picture::{DecodedPicture, DecodingRefs};
 use dirac_io::Source;
-use dirac_refs::RefBuffer;
 use dirac_sequence_header::Sequence;
 use dirac_units::StreamEnd;
 use std::alloc::Global;
@@ -102,7 +101,7 @@ impl Decoder {
     /// One step, as `step`, where `decode` decodes each picture.
     pub fn step_by<
         S: Source,
-        F: Fn(Global, &[u8], u8, &Sequence, &mut RefBuffer) -> Result<DecodedPicture, Stop>,
+        F: Fn(Global, &[u8], u8, &Sequence, &mut DecodingRefs) -> Result<DecodedPicture, Stop>,
     >(&mut self, decode: &F, source: &mut S) -> Option<Next>
         requires decodes { DecodesPictures (F.pre decode.now) (F.post decode.now) }
         requires no_overflow { self.old.units.unit_place.at + length self.old.units.ahead + S.left source.old < 2 ^ 63 }
@@ -141,7 +140,7 @@ impl Decoder {
     /// Takes the next unit, where none is due before it.
     fn take_unit<
         S: Source,
-        F: Fn(Global, &[u8], u8, &Sequence, &mut RefBuffer) -> Result<DecodedPicture, Stop>,
+        F: Fn(Global, &[u8], u8, &Sequence, &mut DecodingRefs) -> Result<DecodedPicture, Stop>,
     >(&mut self, decode: &F, source: &mut S) -> Option<Next>
         requires decodes { DecodesPictures (F.pre decode.now) (F.post decode.now) }
         requires no_overflow { self.old.units.unit_place.at + length self.old.units.ahead + S.left source.old < 2 ^ 63 }

@@ -3,4 +3,4 @@ use Rattle.dirac_pardec.proofs.by_rows.decode_by_rows.Goals as goal
 
 pub rebuild_rows-requires-clause-refs : goal.rebuild_rows-requires-clause-refs
 rebuild_rows-requires-clause-refs g c =
-    λ lives bound. references_fit c.args.sequence.now c.args.refs.now c.in_ok-coded.coded.header c.in_ok-coded.ensures.listed c.requires.listed
+    λ lives bound. references_fit c.args.asked.sequence.now c.args.refs.now c.in_ok-coded.coded.header c.in_ok-coded.ensures.listed c.requires.listed
