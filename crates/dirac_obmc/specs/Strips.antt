@@ -96,6 +96,12 @@ pub record IsPartOfRun (m : Compensation) (first end : ℕ) (p : Part) : Type 0 
   pub values : (r k : ℕ) → r < p.down.end - p.down.start → k < p.width → slice_index_or p.values.now (r * p.width + k)
       (pos 0) ≡ predicts m (block_at m.blocks p.run.i p.run.j) (p.left + k) (p.down.start + r)
 
+-- where a plane has rows of that width, each value of a part, those behind its columns too, has a place among so many
+-- sums of its rows from row `first` on
+abbrev pub HasAllSums : ℕ → ℕ → Part → ℕ → Type 0
+HasAllSums width first p sums =
+    (y : ℕ) → y < p.down.end → (y - first) * width + p.left + p.width ≤ sums
+
 -- room for blocks of that many rows
 pub record IsRoomForRows (rows : ℕ) (r : BlockRoom) : Type 0 where
   pub few_rows : rows ≤ 64

@@ -1,5 +1,5 @@
 ghost use Rattle.std.specs.Prelude.{◌≡◌, ℕ, pos, ◌+◌, ◌-◌, ◌*◌, ◌/◌, ◌%◌, ◌^◌, ◌<◌, ◌≤◌, unsigned_abs, length};
-ghost use Rattle.std.specs.Prelude.{slice_index, slice_index_or, IsTrue, true};
+ghost use Rattle.std.specs.Prelude.{min, slice_index, slice_index_or, IsTrue, true};
 ghost use Rattle.std.specs.List.{All};
 ghost use Rattle.dirac_block_table.specs.Tables.{block_at};
 ghost use Rattle.dirac_obmc.specs.Adding.{Adds, PutWeights};
@@ -8,8 +8,8 @@ ghost use Rattle.dirac_obmc.specs.Compensation.{IsCompensation, blocks_across, b
 ghost use Rattle.dirac_obmc.specs.Compensation.{y_length};
 ghost use Rattle.dirac_obmc.specs.Directions.{IsAcross, IsSoundCompensation, IsWeights};
 ghost use Rattle.dirac_obmc.specs.Given.{compensation_of};
-ghost use Rattle.dirac_obmc.specs.Strips.{AreRunParts, AreValues, IsLines, IsPartOfRun, IsRoomForRows, IsRun, IsSpan};
-ghost use Rattle.dirac_obmc.specs.Strips.{added_at};
+ghost use Rattle.dirac_obmc.specs.Strips.{AreRunParts, AreValues, HasAllSums, IsLines, IsPartOfRun, IsRoomForRows};
+ghost use Rattle.dirac_obmc.specs.Strips.{IsRun, IsSpan, added_at};
 ghost use Rattle.dirac_obmc.specs.Strips.{run_added_at, run_share};
 ghost use Rattle.dirac_obmc.specs.Weights.{IsOverlap, block_margin};
 
@@ -196,14 +196,25 @@ fn run_weights(columns: Columns<'_>, run: Run, left: u32, right: u32, out: &mut 
     copy_weights(columns.weights, last, out, single + between, behind);
 }
 
-/// Adds to the sums of all rows what a run of blocks predicts, as far as there are sums. What stands behind its columns
-/// has the weight 0.
-fn add_part(motion: &Motion<'_>, lines: Lines<'_>, part: Part<'_>, sums: &mut [i32])
+/// How many of `width` values have a sum where `sums` sums are left; `all` says that each has one.
+#[inline(always)]
+fn count_with_sums(width: usize, sums: usize, all: bool) -> usize
+    requires { all ≡ true → width ≤ sums }
+    ensures { result ≡ min width sums }
+{
+    if all { width } else { width.min(sums) }
+}
+
+/// Adds to the sums of all rows what a run of blocks predicts, as far as there are sums; `all` says that each of its
+/// values has one. What stands behind its columns has the weight 0.
+#[inline(always)]
+fn add_rows(motion: &Motion<'_>, lines: Lines<'_>, part: Part<'_>, all: bool, sums: &mut [i32])
     requires motion { IsCompensation (compensation_of motion.now) }
     requires sound { IsSoundCompensation (compensation_of motion.now) }
     requires lines { IsLines (compensation_of motion.now) lines }
     requires part { IsPartOfRun (compensation_of motion.now) lines.first lines.end part }
     requires len { length sums.old ≡ motion.now.width * (lines.end - lines.first) }
+    requires all { all ≡ true → HasAllSums motion.now.width lines.first part (length sums.old) }
     requires sums { All (λ v. unsigned_abs v ≤ 2 ^ 22) sums.old }
     ensures { Adds (run_added_at (compensation_of motion.now) lines.entry.first part.entry.run.j part.entry.run.i
         part.entry.run.count) (motion.now.width * (lines.entry.end - lines.entry.first)) sums.old sums.new }
@@ -217,8 +228,59 @@ fn add_part(motion: &Motion<'_>, lines: Lines<'_>, part: Part<'_>, sums: &mut [i
             weights: part.weights,
             down: lines.weights[part.down.weights as usize + row],
         };
-        let count = part.width.min(sums.len() - place);
+        let count = count_with_sums(part.width, sums.len() - place, all);
         add_values(sums, place, weighed, count);
+    }
+}
+
+/// Whether all values of a part have sums, those behind its columns too.
+fn has_all_sums(motion: &Motion<'_>, lines: Lines<'_>, part: Part<'_>, sums: usize) -> bool
+    requires motion { IsCompensation (compensation_of motion.now) }
+    requires lines { IsLines (compensation_of motion.now) lines }
+    requires part { IsPartOfRun (compensation_of motion.now) lines.first lines.end part }
+    ensures { result ≡ true → HasAllSums motion.now.width lines.entry.first part.entry sums }
+{
+    let last = (part.down.end - 1 - lines.first) as usize * motion.width as usize;
+    last + part.left as usize + part.width <= sums
+}
+
+/// The part as it is, its width told as a number of the call, by which the compiler knows it.
+#[inline(always)]
+fn of_width<'a>(part: Part<'a>, width: usize) -> Part<'a>
+    requires { part.width ≡ width }
+    ensures { result ≡ part.entry }
+{
+    Part {
+        run: part.run,
+        left: part.left,
+        right: part.right,
+        weights: part.weights,
+        down: part.down,
+        values: part.values,
+        width,
+    }
+}
+
+/// Adds to the sums of all rows what a run of blocks predicts, as far as there are sums. Rows of sixteen and of eight
+/// values, which most are, have code of their own.
+fn add_part(motion: &Motion<'_>, lines: Lines<'_>, part: Part<'_>, sums: &mut [i32])
+    requires motion { IsCompensation (compensation_of motion.now) }
+    requires sound { IsSoundCompensation (compensation_of motion.now) }
+    requires lines { IsLines (compensation_of motion.now) lines }
+    requires part { IsPartOfRun (compensation_of motion.now) lines.first lines.end part }
+    requires len { length sums.old ≡ motion.now.width * (lines.end - lines.first) }
+    requires sums { All (λ v. unsigned_abs v ≤ 2 ^ 22) sums.old }
+    ensures { Adds (run_added_at (compensation_of motion.now) lines.entry.first part.entry.run.j part.entry.run.i
+        part.entry.run.count) (motion.now.width * (lines.entry.end - lines.entry.first)) sums.old sums.new }
+{
+    if !has_all_sums(motion, lines, part, sums.len()) {
+        add_rows(motion, lines, part, false, sums);
+    } else if part.width == 16 {
+        add_rows(motion, lines, of_width(part, 16), true, sums);
+    } else if part.width == 8 {
+        add_rows(motion, lines, of_width(part, 8), true, sums);
+    } else {
+        add_rows(motion, lines, part, true, sums);
     }
 }
 

@@ -1,5 +1,5 @@
 -- Rows that are written a few samples at a time.
-use Rattle.std.proofs.Common.{◌≡◌, ◌≢◌, ℕ, ℤ, pos, suc, ◌+◌, ◌-◌, ◌*◌, ◌/◌, ◌%◌, ◌^◌, ◌<◌, ◌≤◌, ◌+ℤ◌, List, length, get_or, set, take, to_z, of_z, arith, refl, inl, inr, ap, ap₂, sym, unsigned_abs, ◌∙◌}
+use Rattle.std.proofs.Common.{◌≡◌, ◌≢◌, ℕ, ℤ, pos, negsuc, suc, ◌+◌, ◌-◌, ◌*◌, ◌/◌, ◌%◌, ◌^◌, ◌<◌, ◌≤◌, ◌+ℤ◌, ◌≤ℤ◌, List, length, get_or, set, take, to_z, of_z, arith, refl, inl, inr, ap, ap₂, sym, unsigned_abs, ◌∙◌}
 use Rattle.std.specs.Int.{w16, w64}
 use Rattle.std.specs.List.{slice_range}
 use Rattle.std.proofs.lemmas.Bool.{cases_eq, cases_lt}
@@ -94,6 +94,11 @@ row_below t p q j out er ea ed h k l =
 -- a place, through its bits
 pub plain_place : (z : ℤ) → unsigned_abs z ≤ 2 ^ 35 → to_z w64 (of_z w64 z) ≡ z
 plain_place z h = to_z-of_z w64 z (fits_signed_from_abs w64 z (omega (arith, h)))
+
+-- a place that isn't left of the first one
+pub whole_place : (z : ℤ) → pos 0 ≤ℤ z → z ≡ pos (unsigned_abs z)
+whole_place (pos n) h = refl
+whole_place (negsuc n) h = absurd (omega (arith, ints))
 
 -- one more row is written
 pub rows_joined : (width j m a k : ℕ) (g : ℕ → ℤ) (xs ws : List ℤ) → ((n : ℕ) → n < j * width → get_or xs n (pos 0) ≡ g n) → a ≡ j * width → length ws ≡ width → a + width ≤ length xs → m ≡ suc j

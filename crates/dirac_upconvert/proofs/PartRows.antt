@@ -107,15 +107,6 @@ pub places_told : (t : Table) (a b p q : ℤ) (out : List ℤ) (n : ℕ) → ((k
 places_told t a b p q out n h all ea eb k l =
     h k (omega arith) ∙ ap (λ z. clamped_at t (z +ℤ pos (2 * k)) b) ea ∙ ap (λ z. clamped_at t (p +ℤ pos (2 * k)) z) eb
 
-pub parts_told : (t : Table) (bits : ℕ) (a b c d p q r s : ℤ) (out : List ℤ) (n : ℕ) → ((k : ℕ) → k < n → get_or out k (pos 0) ≡ rounded (2 * bits) (bilinear t (2 ^ bits) (a +ℤ pos (2 * k)) b c d)) → length out ≤ n
-    → a ≡ p → b ≡ q → c ≡ r → d ≡ s → AreAlternateSubSamples t bits p q r s out
-parts_told t bits a b c d p q r s out n h all ea eb ec ed k l =
-    h k (omega arith)
-    ∙ ap (λ z. rounded (2 * bits) (bilinear t (2 ^ bits) (z +ℤ pos (2 * k)) b c d)) ea
-    ∙ ap (λ z. rounded (2 * bits) (bilinear t (2 ^ bits) (p +ℤ pos (2 * k)) z c d)) eb
-    ∙ ap (λ z. rounded (2 * bits) (bilinear t (2 ^ bits) (p +ℤ pos (2 * k)) q z d)) ec
-    ∙ ap (λ z. rounded (2 * bits) (bilinear t (2 ^ bits) (p +ℤ pos (2 * k)) q r z)) ed
-
 -- rows of places that are read from a row of the table
 pub places_inside : (t : Table) (across down : ℤ) (row out : List ℤ) (at left : ℕ)
     → ((j : ℕ) → j < t.width → get_or row (place_in_row (length row) j) (pos 0) ≡ table_at t j (clamped_to down t.height)) → across ≡ pos at → at + 2 * length out ≤ t.width → left ≡ place_in_row (length row) at

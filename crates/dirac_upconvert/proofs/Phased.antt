@@ -1,14 +1,14 @@
 -- Rows that hold their even columns first and then their odd ones.
-use Rattle.std.proofs.Common.{◌≡◌, ◌≢◌, ℕ, ℤ, pos, suc, ◌+◌, ◌-◌, ◌*◌, ◌/◌, ◌%◌, ◌<◌, ◌≤◌, List, length, get_or, arith, refl, inl, inr, ap, sym, ◌∙◌}
+use Rattle.std.proofs.Common.{◌≡◌, ◌≢◌, ℕ, ℤ, pos, suc, ◌+◌, ◌-◌, ◌*◌, ◌/◌, ◌%◌, ◌<◌, ◌≤◌, List, ◌++◌, length, get_or, arith, refl, inl, inr, ap, sym, ◌∙◌}
 use Rattle.std.specs.List.{slice_range}
 use Rattle.std.proofs.lemmas.Bool.{cases_eq, cases_lt}
+use Rattle.std.proofs.lemmas.List.{get_or_append_left, get_or-append-add}
 use Rattle.std.proofs.lemmas.List.FromFn.{length-map-range_with_len}
 use Rattle.std.proofs.lemmas.Nat.{row_fits}
-use borrow.Rule.Slice.PartMut.{put_mid}
 use Rattle.dirac_common.specs.Table.{filled, table_at, table_of}
 use Rattle.dirac_common.proofs.Rows.{RowsFilled, filled_at, rows_all}
 use Rattle.dirac_upconvert.specs.Phases.{phase_at, place_in_row, table_of_phases}
-use Rattle.dirac_upconvert.proofs.Lanes.{part_before, part_inside, part_read}
+use Rattle.dirac_upconvert.proofs.Lanes.{part_read}
 
 -- even columns stand first, odd ones behind them
 pub place_even : (places x : ℕ) → x % 2 ≡ 0 → place_in_row places x ≡ x / 2
@@ -45,18 +45,18 @@ held_row columns rows y start end x samples across down es ee fits =
     part_read samples start end (place_in_row (2 * columns) x) (y * (2 * columns) + place_in_row (2 * columns) x) (omega (arith, below, ee)) (omega (arith, es))
     ∙ sym (filled_at (phase_at columns samples) (2 * columns - 1) (2 * rows - 1) x y across down)
 
--- one more row is written
-pub phases_more : (w j m a k : ℕ) (f : ℕ → ℕ → ℤ) (xs ws : List ℤ) → ((x y : ℕ) → x + 1 < 2 * w → y < j → phase_at w xs x y ≡ f x y) → a ≡ j * (2 * w) → length ws ≡ 2 * w → a + 2 * w ≤ length xs → m ≡ suc j
-    → ((x : ℕ) → x + 1 < 2 * w → get_or ws (place_in_row (2 * w) x) (pos 0) ≡ f x j) → (x y : ℕ) → x + 1 < 2 * w → y < m → phase_at w (put_mid a k xs ws) x y ≡ f x y
-phases_more w j m a k f xs ws h start len fits next row x y across l =
+-- one more row is appended
+pub phases_more : (w j m : ℕ) (f : ℕ → ℕ → ℤ) (xs ws : List ℤ) → ((x y : ℕ) → x + 1 < 2 * w → y < j → phase_at w xs x y ≡ f x y) → length xs ≡ j * (2 * w) → m ≡ suc j
+    → ((x : ℕ) → x + 1 < 2 * w → get_or ws (place_in_row (2 * w) x) (pos 0) ≡ f x j) → (x y : ℕ) → x + 1 < 2 * w → y < m → phase_at w (xs ++ ws) x y ≡ f x y
+phases_more w j m f xs ws h len next row x y across l =
     let even : 2 * w % 2 ≡ 0 = omega arith in
     let below = held_below (2 * w) x even (omega arith) in
     elim (cases_lt y j) [
       | inl before ↦
-          part_before a k (y * (2 * w) + place_in_row (2 * w) x) xs ws (omega (arith, row_fits y (2 * w) j (2 * w) before (omega arith), below, start)) (omega (arith, fits)) ∙ h x y across before
+          get_or_append_left xs ws (pos 0) (y * (2 * w) + place_in_row (2 * w) x) (omega (arith, row_fits y (2 * w) j (2 * w) before (omega arith), below, len)) ∙ h x y across before
       | inr past ↦
           let here : y ≡ j = omega (arith, l, past, next) in
-          rw here (ap (λ i. get_or (put_mid a k xs ws) (i + place_in_row (2 * w) x) (pos 0)) (sym start) ∙ part_inside a k (place_in_row (2 * w) x) xs ws (omega (arith, below, len)) (omega (arith, fits)) ∙ row x across)
+          rw here (ap (λ i. get_or (xs ++ ws) (i + place_in_row (2 * w) x) (pos 0)) (sym len) ∙ get_or-append-add xs ws (place_in_row (2 * w) x) (pos 0) ∙ row x across)
     ]
 
 -- all rows

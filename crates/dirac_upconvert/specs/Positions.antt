@@ -5,6 +5,7 @@ use Rattle.dirac_common.specs.declared.limits.TheConstants.{LARGEST_SIDE}
 use Rattle.dirac_common.specs.Table.{Table}
 use Rattle.dirac_upconvert.specs.declared.rows.Position.{Position}
 use Rattle.dirac_upconvert.specs.declared.rows.Sides.{Sides}
+use Rattle.dirac_upconvert.specs.Phases.{place_in_row}
 use Rattle.dirac_upconvert.specs.Rests.{AreRests}
 use Rattle.dirac_upconvert.specs.SubSamples.{AreAlternateSubSamples, bilinear, rounded}
 
@@ -39,3 +40,13 @@ AreWholeRows width out = (1 ≤ width) × (length out % width ≡ 0) × (length 
 abbrev pub HoldSides : Sides → ℕ → List ℤ → List ℤ → Type 0
 HoldSides s count above under =
     (s.left + count ≤ length above) × (s.next + count ≤ length above) × (length under ≡ length above)
+
+-- the sides of the positions from a place on, in rows of that many columns and one place more; of a place left of the
+-- first column nothing is said
+abbrev pub AreSidesFrom : ℕ → ℤ → Sides → Type 0
+AreSidesFrom width across s =
+    (x : ℕ) → across ≡ pos x → (s.left ≡ place_in_row (width + 1) x) × (s.next ≡ place_in_row (width + 1) (x + 1))
+
+-- a position that lies behind its places neither across nor down
+abbrev pub IsAtPlace : Position → Type 0
+IsAtPlace p = (p.rests.right ≡ pos 0) × (p.rests.below ≡ pos 0)

@@ -92,6 +92,13 @@ impl Phases {
         2 * self.columns - 1
     }
 
+    /// The number of places of each row: one more than it has columns.
+    pub fn row_len(&self) -> usize
+        ensures { result ≡ self.now.width + 1 }
+    {
+        2 * self.columns as usize
+    }
+
     /// Lends the row that is nearest to place `y`.
     pub fn nearest_row(&self, y: i64) -> &[i8]
         ensures value { (x : ℕ) → x < self.now.width → slice_index_or result.now (place_in_row (length result.now) x)

@@ -89,21 +89,25 @@ fn double_row(plane: &Plane, y: u32, line: &mut [i16], out: &mut [i8])
     }
 }
 
-/// All rows of the upconverted plane; `line` is room for one row of half samples.
-fn double_rows(plane: &Plane, line: &mut [i16], out: &mut [i8])
+/// All rows of the upconverted plane, one behind another.
+fn double_rows(alloc: Global, plane: &Plane) -> Result<Vec<i8>, NoMemory>
     requires at_least_1 { 1 ≤ plane.now.width }
     requires at_most_4096 { plane.now.height ≤ LARGEST_SIDE }
-    requires line { length line.old ≡ plane.now.width }
-    requires out { length out.old ≡ (2 * plane.now.height - 1) * (2 * plane.now.width) }
     requires samples { All IsSample plane.now.values }
-    ensures { (x y : ℕ) → x + 1 < 2 * plane.now.width → y + 1 < 2 * plane.now.height
-        → phase_at plane.now.width out.new x y ≡ half_at plane.now x y }
+    ensures len { IfOk result (λ s. length s.items ≡ (2 * plane.now.height - 1) * (2 * plane.now.width)) }
+    ensures value { IfOk result (λ s. (x y : ℕ) → x + 1 < 2 * plane.now.width → y + 1 < 2 * plane.now.height
+        → phase_at plane.now.width s.items x y ≡ half_at plane.now x y) }
 {
     let places = 2 * plane.width() as usize;
-    for y in 0..2 * plane.height() - 1 {
-        let start = y as usize * places;
-        double_row(plane, y, line, &mut out[start..start + places]);
+    let rows = 2 * plane.height() - 1;
+    let mut line = vec![in alloc; 0i16; plane.width() as usize]?;
+    let mut row = vec![in alloc; 0i8; places]?;
+    let mut samples = Vec::with_capacity(alloc, rows as usize * places)?;
+    for y in 0..rows {
+        double_row(plane, y, line.as_mut_slice(), row.as_mut_slice());
+        samples.extend_from_slice(row.as_slice())?;
     }
+    Ok(samples)
 }
 
 /// The plane with its half samples, first between its rows and then between the columns of that result
@@ -121,10 +125,7 @@ pub fn upconvert(alloc: Global, plane: &Plane) -> Result<UpPlane, NoMemory>
 {
     let width = plane.width();
     let height = plane.height();
-    let mut line = vec![in alloc; 0i16; width as usize]?;
-    let count = (2 * height - 1) as usize * (2 * width as usize);
-    let mut samples = vec![in alloc; 0i8; count]?;
-    double_rows(plane, line.as_mut_slice(), samples.as_mut_slice());
+    let samples = double_rows(alloc, plane)?;
     let table = Phases::of_rows(width, height, samples);
     Ok(UpPlane {
         width,

@@ -1,10 +1,10 @@
-ghost use Rattle.std.specs.Prelude.{◌≡◌, ℕ, pos, ◌+◌, ◌-◌, ◌*◌, ◌/◌, ◌%◌, ◌^◌, ◌<◌, ◌≤◌, ◌+ℤ◌, ◌≤ℤ◌, IsTrue};
+ghost use Rattle.std.specs.Prelude.{◌≡◌, ℕ, pos, ◌+◌, ◌-◌, ◌*◌, ◌/◌, ◌%◌, ◌^◌, ◌<◌, ◌≤◌, ◌+ℤ◌, ◌≤ℤ◌, IsTrue, true};
 ghost use Rattle.std.specs.Prelude.{unsigned_abs};
 ghost use Rattle.std.specs.Prelude.{length, slice_index_or};
 ghost use Rattle.dirac_upconvert.specs.HalfSamples.{IsSample};
 ghost use Rattle.dirac_upconvert.specs.Phases.{place_in_row};
-ghost use Rattle.dirac_upconvert.specs.Positions.{AreSamplesByRows, AreSamplesFrom, AreWholeRows, HoldSides};
-ghost use Rattle.dirac_upconvert.specs.Positions.{IsPositionNear, sample_from};
+ghost use Rattle.dirac_upconvert.specs.Positions.{AreSamplesByRows, AreSamplesFrom, AreSidesFrom, AreWholeRows};
+ghost use Rattle.dirac_upconvert.specs.Positions.{HoldSides, IsAtPlace, IsPositionNear, sample_from};
 ghost use Rattle.dirac_upconvert.specs.Rests.{AreRests};
 ghost use Rattle.dirac_upconvert.specs.SubSamples.{AreAlternateSamples, IsRest, IsWithin, PutFrom};
 ghost use Rattle.dirac_upconvert.specs.SubSamples.{between_sides, bilinear, rounded, sum_of_four, mixed};
@@ -373,27 +373,50 @@ fn column(across: i64) -> usize
     across as usize
 }
 
-/// The samples at every second place of row `down`, where all lie inside the row.
+/// The sides of the positions behind column `x` of a row, and behind those that are two columns apart from it.
 #[inline(always)]
-fn inner_places(table: &Phases, across: i64, down: i64, out: &mut [i16])
-    requires inside { (pos 0 ≤ℤ across) × ((across +ℤ pos (2 * length out.old)) ≤ℤ pos table.now.width) }
-    ensures { AreAlternateSamples table.now across down out.new }
+fn sides_of(places: usize, x: usize) -> Sides
+    requires { x + 1 ≤ places }
+    ensures left { result.left ≡ place_in_row places x }
+    ensures next { result.next ≡ place_in_row places (x + 1) }
 {
-    let row = table.nearest_row(down);
-    copy_row(row, held_at(row.len(), column(across)), out);
+    Sides {
+        left: held_at(places, x),
+        next: held_at(places, x + 1),
+    }
 }
 
-/// The samples at every second place of row `down`, from place `across` on.
+/// The sides of the positions from a column of the table on, or from the one behind its last.
 #[inline(always)]
-pub fn places(table: &Phases, across: i64, down: i64, out: &mut [i16])
-    requires across { unsigned_abs across ≤ 2 ^ 34 }
-    requires at_most_4096 { length out.old ≤ LARGEST_SIDE }
-    ensures { AreAlternateSamples table.now across down out.new }
+fn sides_from(table: &Phases, across: i64) -> Sides
+    requires { (pos 0 ≤ℤ across) × (across ≤ℤ pos table.now.width) }
+    ensures { AreSidesFrom table.now.width across result }
 {
-    if is_inside(across, out.len(), table.width()) {
-        inner_places(table, across, down, out);
+    sides_of(table.row_len(), column(across))
+}
+
+/// The samples at a position's places, where all lie inside the row; `sides` are those of its first one.
+#[inline(always)]
+fn inner_places(table: &Phases, sides: Sides, from: Position, out: &mut [i16])
+    requires from { IsPositionNear (2 ^ 34) (2 ^ 35) from }
+    requires inside { (pos 0 ≤ℤ from.across) × ((from.across +ℤ pos (2 * length out.old)) ≤ℤ pos table.now.width) }
+    requires sides { AreSidesFrom table.now.width from.across sides }
+    ensures { AreAlternateSamples table.now from.across from.down out.new }
+{
+    copy_row(table.nearest_row(from.down), sides.left, out);
+}
+
+/// The samples at a position's places: every second one of its row.
+#[inline(always)]
+fn places(table: &Phases, from: Position, out: &mut [i16])
+    requires from { IsPositionNear (2 ^ 34) (2 ^ 35) from }
+    requires at_most_4096 { length out.old ≤ LARGEST_SIDE }
+    ensures { AreAlternateSamples table.now from.across from.down out.new }
+{
+    if is_inside(from.across, out.len(), table.width()) {
+        inner_places(table, sides_from(table, from.across), from, out);
     } else {
-        clamped_places(table, across, down, out);
+        clamped_places(table, from.across, from.down, out);
     }
 }
 
@@ -427,35 +450,25 @@ fn clamped_parts(table: &Phases, from: Position, out: &mut [i16])
     }
 }
 
-/// The sides of the positions behind column `x` of a row, and behind those that are two columns apart from it.
+/// The samples from a position on, two columns apart, where all lie inside the row; `sides` are those of the first one.
 #[inline(always)]
-fn sides_of(places: usize, x: usize) -> Sides
-    requires { x + 1 ≤ places }
-    ensures left { result.left ≡ place_in_row places x }
-    ensures next { result.next ≡ place_in_row places (x + 1) }
-{
-    Sides {
-        left: held_at(places, x),
-        next: held_at(places, x + 1),
-    }
-}
-
-/// The samples from a position on, two columns apart, where all lie inside the row.
-#[inline(always)]
-fn inner_parts(table: &Phases, from: Position, out: &mut [i16])
+fn inner_parts(table: &Phases, sides: Sides, from: Position, out: &mut [i16])
     requires from { IsPositionNear (2 ^ 34) (2 ^ 35) from }
     requires inside { (pos 0 ≤ℤ from.across) × ((from.across +ℤ pos (2 * length out.old)) ≤ℤ pos table.now.width) }
+    requires sides { AreSidesFrom table.now.width from.across sides }
     ensures { AreSamplesFrom table.now from out.new }
 {
     let above = table.nearest_row(from.down);
     let under = table.nearest_row(beside(from.down));
-    in_lanes(
-        from.rests,
-        above,
-        under,
-        sides_of(above.len(), column(from.across)),
-        out,
-    );
+    in_lanes(from.rests, above, under, sides, out);
+}
+
+/// Whether the samples from a position on are samples at places.
+#[inline(always)]
+fn is_at_place(from: Position) -> bool
+    ensures { result ≡ true → IsAtPlace from }
+{
+    from.rests.right == 0 && from.rests.below == 0
 }
 
 /// The samples from a position on, two columns apart.
@@ -465,10 +478,10 @@ pub fn row_parts(table: &Phases, from: Position, out: &mut [i16])
     requires at_most_4096 { length out.old ≤ LARGEST_SIDE }
     ensures { AreSamplesFrom table.now from out.new }
 {
-    if from.rests.right == 0 && from.rests.below == 0 {
-        places(table, from.across, from.down, out);
+    if is_at_place(from) {
+        places(table, from, out);
     } else if is_inside(from.across, out.len(), table.width()) {
-        inner_parts(table, from, out);
+        inner_parts(table, sides_from(table, from.across), from, out);
     } else {
         clamped_parts(table, from, out);
     }
@@ -492,12 +505,11 @@ fn eight_columns(table: &Phases, from: Position, width: usize, first: usize, out
     }
 }
 
-/// Whether rows of so many places from place `across` on are eights of them, and reach beyond the rows of the table.
-fn are_cut_eights(table: &Phases, across: i64, width: usize) -> bool
-    requires across { unsigned_abs across ≤ 2 ^ 33 }
+/// Whether rows of so many samples are eights of them.
+fn are_eights(width: usize) -> bool
     ensures { IsTrue result → (width % 8 ≡ 0) × (width ≤ LARGEST_SIDE) }
 {
-    width % 8 == 0 && width <= LARGEST_SIDE as usize && !is_inside(across, width, table.width())
+    width % 8 == 0 && width <= LARGEST_SIDE as usize
 }
 
 /// The samples from a position on, two columns and two rows apart: rows of eights of them, so that each eight that lies
@@ -526,14 +538,92 @@ fn whole_rows_of_parts(table: &Phases, from: Position, width: usize, out: &mut [
     }
 }
 
-/// The samples from a position on, two columns and two rows apart: rows of `width`. Rows that lie inside the table's
-/// rows are read whole.
+/// Whether rows of so many samples from place `across` on lie inside the table's rows.
+fn are_inner(table: &Phases, across: i64, width: usize) -> bool
+    requires across { unsigned_abs across ≤ 2 ^ 33 }
+    ensures { IsTrue result → (pos 0 ≤ℤ across) × ((across +ℤ pos (2 * width)) ≤ℤ pos table.now.width) }
+{
+    width <= LARGEST_SIDE as usize && is_inside(across, width, table.width())
+}
+
+/// A row of samples from a position on, two columns apart, where all lie inside the table's row; `sides` are those of
+/// the first one, and `at_places` says that they are samples at places.
+#[inline(always)]
+fn inner_row(at_places: bool, table: &Phases, sides: Sides, from: Position, out: &mut [i16])
+    requires from { IsPositionNear (2 ^ 34) (2 ^ 35) from }
+    requires inside { (pos 0 ≤ℤ from.across) × ((from.across +ℤ pos (2 * length out.old)) ≤ℤ pos table.now.width) }
+    requires sides { AreSidesFrom table.now.width from.across sides }
+    requires at_places { at_places ≡ true → IsAtPlace from }
+    ensures { AreSamplesFrom table.now from out.new }
+{
+    if at_places {
+        inner_places(table, sides, from, out);
+    } else {
+        inner_parts(table, sides, from, out);
+    }
+}
+
+/// The samples from a position on, two columns and two rows apart, row by row, where all lie inside the table's rows.
+/// Where the rows begin in those of the table is found once; `at_places` says that they are samples at places.
+#[inline(always)]
+fn inner_rows(at_places: bool, table: &Phases, from: Position, width: usize, out: &mut [i16])
+    requires from { IsPositionNear (2 ^ 33) (2 ^ 34) from }
+    requires rows { AreWholeRows width out.old }
+    requires inside { (pos 0 ≤ℤ from.across) × ((from.across +ℤ pos (2 * width)) ≤ℤ pos table.now.width) }
+    requires at_places { at_places ≡ true → IsAtPlace from }
+    ensures { AreSamplesByRows table.now from width out.new }
+{
+    let sides = sides_from(table, from.across);
+    for j in 0..out.len() / width {
+        let start = j * width;
+        inner_row(
+            at_places,
+            table,
+            sides,
+            lower(from, j),
+            &mut out[start..start + width],
+        );
+    }
+}
+
+/// The samples from a position on, two columns and two rows apart, where all lie inside the table's rows. Rows of
+/// sixteen and of eight samples, which most are, have code of their own.
+#[inline(always)]
+fn inner_rows_by_width(
+    at_places: bool,
+    table: &Phases,
+    from: Position,
+    width: usize,
+    out: &mut [i16],
+)
+    requires from { IsPositionNear (2 ^ 33) (2 ^ 34) from }
+    requires rows { AreWholeRows width out.old }
+    requires inside { (pos 0 ≤ℤ from.across) × ((from.across +ℤ pos (2 * width)) ≤ℤ pos table.now.width) }
+    requires at_places { at_places ≡ true → IsAtPlace from }
+    ensures { AreSamplesByRows table.now from width out.new }
+{
+    if width == 16 {
+        inner_rows(at_places, table, from, 16, out);
+    } else if width == 8 {
+        inner_rows(at_places, table, from, 8, out);
+    } else {
+        inner_rows(at_places, table, from, width, out);
+    }
+}
+
+/// The samples from a position on, two columns and two rows apart: rows of `width`.
 pub fn rows_of_parts(table: &Phases, from: Position, width: usize, out: &mut [i16])
     requires from { IsPositionNear (2 ^ 33) (2 ^ 34) from }
     requires rows { AreWholeRows width out.old }
     ensures { AreSamplesByRows table.now from width out.new }
 {
-    if are_cut_eights(table, from.across, width) {
+    if are_inner(table, from.across, width) {
+        if is_at_place(from) {
+            inner_rows_by_width(true, table, from, width, out);
+        } else {
+            inner_rows_by_width(false, table, from, width, out);
+        }
+    } else if are_eights(width) {
         columns_of_parts(table, from, width, out);
     } else {
         whole_rows_of_parts(table, from, width, out);

@@ -3,7 +3,7 @@ use Rattle.dirac_obmc.specs.Given.{compensation_of}
 use Rattle.dirac_obmc.specs.Strips.{run_added_at}
 use Rattle.dirac_obmc.proofs.AddLemmas.{part_shorter}
 use Rattle.dirac_obmc.proofs.StripLemmas.{below_all, below_bounded, below_none, part_above, part_below, part_fits, part_low, part_row, part_small, part_weighed, weighed_none}
-use Rattle.dirac_obmc.proofs.rows.add_part.Goals as goal
+use Rattle.dirac_obmc.proofs.rows.add_rows.Goals as goal
 
 pub loop-y-init : goal.loop-y-init
 loop-y-init c = below_none _ _ _ (λ p l. part_above (compensation_of c.args.motion.now) c.args.lines.first c.args.lines.end c.args.part p c.requires.motion c.requires.part l)
@@ -19,17 +19,17 @@ add_values-requires-clause-sums c =
 
 pub add_values-requires-clause-inside : goal.add_values-requires-clause-inside
 add_values-requires-clause-inside c =
-    omega (arith, c.min-count.ensures, part_fits (compensation_of c.args.motion.now) c.args.lines.first c.args.lines.end c.args.part c.loop-y.y c.requires.part (omega arith) (omega arith), c.requires.len, c.loop-y.invariant.len)
+    omega (arith, c.count_with_sums-count.ensures, part_fits (compensation_of c.args.motion.now) c.args.lines.first c.args.lines.end c.args.part c.loop-y.y c.requires.part (omega arith) (omega arith), c.requires.len, c.loop-y.invariant.len)
 
 pub add_values-requires-clause-weighed : goal.add_values-requires-clause-weighed
 add_values-requires-clause-weighed c =
-    part_weighed (compensation_of c.args.motion.now) c.args.lines c.args.part c.loop-y.y _ c.requires.motion c.requires.sound c.requires.lines c.requires.part (omega arith) (omega arith) (omega (arith, c.min-count.ensures))
+    part_weighed (compensation_of c.args.motion.now) c.args.lines c.args.part c.loop-y.y _ c.requires.motion c.requires.sound c.requires.lines c.requires.part (omega arith) (omega arith) (omega (arith, c.count_with_sums-count.ensures))
 
 pub loop-y-preserved : goal.loop-y-preserved
 loop-y-preserved c =
     part_row (compensation_of c.args.motion.now) c.args.lines c.args.part c.loop-y.y _ _ _ c.requires.motion c.requires.lines c.requires.part (omega arith) (omega arith) c.loop-y.invariant
-    (part_shorter _ _ (c.args.part.right - c.args.part.left) c.min-count.result _ _ c.add_values.ensures
-    (omega (arith, c.min-count.ensures, c.requires.part.fits, part_fits (compensation_of c.args.motion.now) c.args.lines.first c.args.lines.end c.args.part c.loop-y.y c.requires.part (omega arith) (omega arith), c.requires.len, c.loop-y.invariant.len))
+    (part_shorter _ _ (c.args.part.right - c.args.part.left) c.count_with_sums-count.result _ _ c.add_values.ensures
+    (omega (arith, c.count_with_sums-count.ensures, c.requires.part.fits, part_fits (compensation_of c.args.motion.now) c.args.lines.first c.args.lines.end c.args.part c.loop-y.y c.requires.part (omega arith) (omega arith), c.requires.len, c.loop-y.invariant.len))
     (λ k past l. weighed_none _ k (c.requires.part.columns.past k past)))
 
 pub bounds-lines-part : goal.bounds-lines-part

@@ -2,7 +2,7 @@ use Rattle.std.proofs.Common.{◌-◌, ◌*◌}
 use Rattle.dirac_obmc.specs.Given.{compensation_of}
 use Rattle.dirac_obmc.specs.Strips.{run_added_at}
 use Rattle.dirac_obmc.proofs.StripLemmas.{AddsBelow}
-use Rattle.dirac_obmc.proofs.rows.add_part.Given as goal
+use Rattle.dirac_obmc.proofs.rows.add_rows.Given as goal
 
 abbrev pub invariant-loop-y : goal.invariant-loop-y
 invariant-loop-y l =
