@@ -35,5 +35,5 @@ pub(crate) fn decode_at_hand<R: Threads + Sync, G: RowGate>(
     } else if let Some(decoded) = lot.take_inter(crew, alloc, asked, refs) {
         return Ok(decoded);
     }
-    decode_by_rows(crew, alloc, asked, refs.list())
+    decode_by_rows(crew, alloc, asked, refs)
 }

@@ -10,14 +10,15 @@ ghost use Rattle.dirac_decode_picture.specs.Payload.{CanBeDecoded, DecodesPayloa
 
 use crate::asked::Asked;
 use crate::crew::Crew;
+use crate::halves::keep_named_halves;
 use dirac_bits::BitReader;
 use dirac_common::{RowGate, Stop};
-use dirac_decode_picture::{DecodedPicture, rebuild_picture};
+use dirac_decode_picture::{DecodedPicture, DecodingRefs, rebuild_picture};
 use dirac_parameters::Transform;
 use dirac_picture::{CodedPicture, CodedResidual, read_picture_by};
 use dirac_refs::{RefBuffer, reference_of};
 use dirac_sequence_header::Sequence;
-use dirac_slices::{read_planes_rows, rebuild_rows};
+use dirac_slices::{read_planes_rows, rebuild_rows, workers_for};
 use std::alloc::Global;
 use std::marker::Sync;
 use std::thread::Threads;
@@ -54,20 +55,35 @@ fn read_by_rows<R: Threads + Sync, G: RowGate>(
     )
 }
 
-/// Reads a picture from the payload of its unit and rebuilds it, both by workers that share its rows.
+/// Reads a picture from the payload of its unit and rebuilds it, both by workers that share its rows. The half samples
+/// of the pictures that it refers to are kept.
 pub(crate) fn decode_by_rows<R: Threads + Sync, G: RowGate>(
     crew: &Crew<R, G>,
     alloc: Global,
     asked: Asked<'_>,
-    refs: &RefBuffer,
+    refs: &mut DecodingRefs,
 ) -> Result<DecodedPicture, Stop>
-    requires { CanBeDecoded asked.code asked.sequence.now refs.now }
-    ensures { DecodesPayload asked.entry.payload.now asked.entry.code asked.entry.sequence.now refs.now result
-        refs.now }
+    requires { CanBeDecoded asked.code asked.sequence.now refs.old }
+    ensures { DecodesPayload asked.entry.payload.now asked.entry.code asked.entry.sequence.now refs.old result
+        refs.new }
 {
-    let coded = read_by_rows(crew, alloc, asked, refs)?;
+    let coded = read_by_rows(crew, alloc, asked, refs.list())?;
+    let doublers = Crew::new(
+        crew.rt,
+        workers_for(asked.sequence, crew.workers),
+        crew.gate,
+    );
+    keep_named_halves(&doublers, alloc, &coded.header, refs);
     let (rt, workers, gate) = (crew.rt, crew.workers, crew.gate);
-    let picture = rebuild_rows(rt, alloc, &coded, asked.sequence, refs, workers, gate)?;
+    let picture = rebuild_rows(
+        rt,
+        alloc,
+        &coded,
+        asked.sequence,
+        refs.list(),
+        workers,
+        gate,
+    )?;
     let reference = reference_of(alloc, asked.code, &picture)?;
     Ok(DecodedPicture {
         code: asked.code,

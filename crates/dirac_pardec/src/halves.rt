@@ -11,6 +11,7 @@ ghost use Rattle.dirac_pardec.specs.Halves.{plane_of_number, up_of_number};
 use crate::crew::Crew;
 use dirac_common::{NoMemory, Picture, Plane, RowGate};
 use dirac_decode_picture::DecodingRefs;
+use dirac_header::PictureHeader;
 use dirac_refs::Halves;
 use dirac_rows::map_rows;
 use dirac_upconvert::{UpPlane, upconvert};
@@ -93,4 +94,24 @@ pub(crate) fn keep_halves_by_rows<R: Threads + Sync, G: RowGate>(
         ensures { IfOk result (AreHalves picture.now) }
     { halves_by_rows(crew, alloc, picture) };
     refs.keep_halves_by(&double, numbers);
+}
+
+/// Keeps half samples of the pictures that a coded picture refers to, and of no other, each made by workers where it
+/// isn't kept yet; an intra picture changes nothing.
+pub(crate) fn keep_named_halves<R: Threads + Sync, G: RowGate>(
+    crew: &Crew<R, G>,
+    alloc: Global,
+    header: &PictureHeader,
+    refs: &mut DecodingRefs,
+)
+    requires { All CanBeDoubled refs.old }
+    ensures { refs.new ≡ refs.old }
+{
+    let Some(first) = header.ref1 else {
+        return;
+    };
+    match header.ref2 {
+        None => keep_halves_by_rows(crew, alloc, &[first], refs),
+        Some(second) => keep_halves_by_rows(crew, alloc, &[first, second], refs),
+    }
 }

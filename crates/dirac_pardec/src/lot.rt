@@ -170,7 +170,8 @@ impl Lot {
 
     /// What an inter picture was decoded to, if it is the next one that was decoded ahead, or is decoded now with those
     /// behind it. Where there is no memory for that many, none of these units is looked at again, and the half samples
-    /// that were kept for them are given up: workers that share the rows of a picture make their own.
+    /// that were kept for them are given up before the picture is decoded by workers that share its rows, which make
+    /// those of the pictures that it names again.
     pub(crate) fn take_inter<R: Threads + Sync, G: RowGate>(
         &self,
         crew: &Crew<R, G>,

@@ -7,7 +7,6 @@ ghost use Rattle.dirac_picture.specs.Fits.{IsMotion, NamesReferences};
 ghost use Rattle.dirac_obmc.specs.Compensation.{IsPredictable, predicted_plane};
 ghost use Rattle.dirac_obmc.specs.Given.{compensation_of};
 ghost use Rattle.dirac_content.specs.Content as content;
-ghost use Rattle.dirac_rebuild.specs.Doubled.{doubled_plane_in};
 ghost use Rattle.dirac_rebuild.specs.Moved.{IsMoved};
 ghost use Rattle.dirac_content.specs.Predicting.{IsUpOfPart};
 
@@ -21,6 +20,7 @@ use dirac_refs::{Halves, RefBuffer, Reference};
 use dirac_sequence_header::Sequence;
 use dirac_upconvert::{UpPlane, upconvert};
 use std::alloc::Global;
+use std::marker::Model;
 
 /// The motion of an inter picture, with its parse code and its sequence.
 #[derive(Clone, Copy)]
@@ -126,23 +126,36 @@ fn half_plane(halves: &Halves, component: Component) -> &UpPlane
     }
 }
 
-/// A plane of a reference with its half samples.
+/// Where a plane of a reference with its half samples stands.
 #[derive(Drop)]
-pub(crate) enum Doubled<'a> {
+enum Doubled<'a> {
     /// Lent by the reference, which keeps it.
     Kept(&'a UpPlane),
-    /// Made for one call.
+    /// Made for the caller.
     Made(UpPlane),
 }
 
-impl<'a> Doubled<'a> {
+/// A plane of a reference with its half samples: lent by the reference where it keeps them, else made for the caller.
+#[derive(Drop)]
+pub struct ReferencePlane<'a> {
+    doubled: Doubled<'a>,
+}
+
+impl<'a> Model for ReferencePlane<'a> {
+    ghost use Rattle.dirac_upconvert.specs.SubSamples.{Up};
     ghost use Rattle.dirac_rebuild.specs.Doubled.{doubled_plane_in};
 
+    ghost Value = { Up };
+
+    ghost view = { λ p. doubled_plane_in p.doubled };
+}
+
+impl<'a> ReferencePlane<'a> {
     /// Lends the plane.
-    pub(crate) fn plane(&self) -> &UpPlane
-        ensures { result.now ≡ doubled_plane_in self.now }
+    pub fn plane(&self) -> &UpPlane
+        ensures { result.now ≡ self.now }
     {
-        match self {
+        match &self.doubled {
             Doubled::Kept(up) => up,
             Doubled::Made(up) => up,
         }
@@ -150,22 +163,26 @@ impl<'a> Doubled<'a> {
 }
 
 /// A plane of a reference with its half samples, which are made where they aren't kept.
-pub(crate) fn up_of_reference<'a>(
+pub fn up_of_reference<'a>(
     alloc: Global,
     sequence: &Sequence,
     reference: &'a Reference,
     component: Component,
-) -> Result<Doubled<'a>, NoMemory>
+) -> Result<ReferencePlane<'a>, NoMemory>
     requires sequence { IsSequence sequence.now }
     requires reference { content.IsPicture sequence.now reference.now }
-    ensures { IfOk result (λ d. doubled_plane_in d ≡ content.up_of (content.plane_of reference.now component)) }
+    ensures { IfOk result (λ p. p ≡ content.up_of (content.plane_of reference.now component)) }
 {
     match kept_plane(reference, component) {
         None => {
             let made = up_plane(alloc, sequence, reference.picture(), component)?;
-            Ok(Doubled::Made(made))
+            Ok(ReferencePlane {
+                doubled: Doubled::Made(made),
+            })
         }
-        Some(up) => Ok(Doubled::Kept(up)),
+        Some(up) => Ok(ReferencePlane {
+            doubled: Doubled::Kept(up),
+        }),
     }
 }
 

@@ -6,6 +6,9 @@ mod motion_rows;
 mod picture;
 mod planes;
 
-pub use compensate::{Moved, plane_motion, predict, predict_from, predict_with, up_plane};
+pub use compensate::{
+    Moved, ReferencePlane, plane_motion, predict, predict_from, predict_with, up_of_reference,
+    up_plane,
+};
 pub use picture::{predicted_samples, rebuild};
 pub use planes::{height_of, plane_of, residual_of, unfinished_of, width_of};

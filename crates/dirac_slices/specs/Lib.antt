@@ -5,3 +5,4 @@ pub mod Samples
 pub mod Basis
 pub mod Parts
 pub mod Bands
+pub mod Small

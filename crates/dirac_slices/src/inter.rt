@@ -5,10 +5,9 @@ ghost use Rattle.dirac_content.specs.Content as content;
 ghost use Rattle.dirac_content.specs.Content.{AreReferences};
 ghost use Rattle.dirac_slices.specs.Given.{lent_inter, IsInter};
 
-use dirac_common::Picture;
-use dirac_content::named;
+use dirac_content::named_reference;
 use dirac_picture::{CodedMotion, CodedPicture, CodedResidual};
-use dirac_refs::RefBuffer;
+use dirac_refs::{RefBuffer, Reference};
 use dirac_sequence_header::Sequence;
 
 /// An inter picture whose references are looked up. Workers share it.
@@ -19,8 +18,8 @@ pub struct Inter<'a> {
     pub sequence: &'a Sequence,
     pub motion: &'a CodedMotion,
     pub residual: &'a Option<CodedResidual>,
-    pub first: &'a Picture,
-    pub second: Option<&'a Picture>,
+    pub first: &'a Reference,
+    pub second: Option<&'a Reference>,
 }
 
 /// Looks up the references of an inter picture.
@@ -42,8 +41,8 @@ pub(crate) fn inter_of<'a>(
     ensures first { content.named refs.now coded.now.header.ref1 ≡ Some (lent_inter result).first }
     ensures second { (lent_inter result).second ≡ content.named refs.now coded.now.header.ref2 }
 {
-    let second = named(refs, coded.header.ref2);
-    match named(refs, coded.header.ref1) {
+    let second = named_reference(refs, coded.header.ref2);
+    match named_reference(refs, coded.header.ref1) {
         None => unreachable!(),
         Some(first) => Inter {
             code: coded.code,

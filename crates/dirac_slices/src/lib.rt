@@ -1,6 +1,6 @@
 //! The work on one picture, shared by workers: its subbands are read by rows, one orientation of a plane each; its
-//! residual planes and upconverted references are made by rows, and its samples slice by slice. The references are
-//! shared.
+//! residual planes and the upconverted references that aren't kept are made by rows, and its samples slice by slice.
+//! The references are shared.
 #![tactic(auto)]
 
 mod assembled;
@@ -21,3 +21,4 @@ mod weights;
 
 pub use planes::read_planes_rows;
 pub use rebuild::rebuild_rows;
+pub use small::workers_for;

@@ -13,8 +13,9 @@ ghost use Rattle.dirac_slices.specs.Prepared.{ArePrepared, IsPreparedAt};
 
 use crate::inter::Inter;
 use crate::places::component_at;
-use dirac_common::{Component, Kind, NoMemory, Picture, RowGate};
-use dirac_rebuild::{unfinished_of, up_plane};
+use dirac_common::{Component, Kind, NoMemory, RowGate};
+use dirac_rebuild::{ReferencePlane, unfinished_of, up_of_reference};
+use dirac_refs::Reference;
 use dirac_rows::map_rows;
 use dirac_sequence_header::Sequence;
 use dirac_synthesis::Unfinished;
@@ -27,11 +28,12 @@ use std::thread::Threads;
 /// reference, and that of the second.
 pub const PREPARED_ROWS: u32 = 9;
 
-/// What one of these rows makes: a residual or a plane of a reference, or nothing where there is no such reference.
+/// What one of these rows makes or lends: a residual or a plane of a reference, or nothing where there is no such
+/// reference.
 #[derive(Drop)]
 pub struct Prepared<'a> {
     pub residual: Option<Unfinished<'a>>,
-    pub up: Option<UpPlane>,
+    pub up: Option<ReferencePlane<'a>>,
 }
 
 /// The residual of a plane.
@@ -59,22 +61,22 @@ fn with_residual<'a>(
     })
 }
 
-/// A plane of a reference with its half samples.
+/// A plane of a reference with its half samples, lent where the reference keeps them.
 fn with_up<'a>(
     alloc: Global,
     sequence: &Sequence,
-    picture: &Picture,
+    reference: &'a Reference,
     component: Component,
 ) -> Result<Prepared<'a>, NoMemory>
     requires sequence { IsSequence sequence.now }
-    requires picture { IsPicture sequence.now picture.now }
+    requires reference { IsPicture sequence.now reference.now }
     ensures residual { IfOk result (λ p. p.residual ≡ None) }
-    ensures up { IfOk result (λ p. p.up ≡ Some (up_of (lent_plane picture.now component))) }
+    ensures up { IfOk result (λ p. p.up ≡ Some (up_of (lent_plane reference.now component))) }
 {
-    let made = up_plane(alloc, sequence, picture, component)?;
+    let up = up_of_reference(alloc, sequence, reference, component)?;
     Ok(Prepared {
         residual: None,
-        up: Some(made),
+        up: Some(up),
     })
 }
 
@@ -162,7 +164,7 @@ pub(crate) fn first_up<'a>(
     let row = 3 * plane as usize + 1;
     match &prepared[row].up {
         None => unreachable!(),
-        Some(up) => up,
+        Some(up) => up.plane(),
     }
 }
 
@@ -178,5 +180,8 @@ pub(crate) fn second_up<'a>(
         (lent_inter inter.now).second }
 {
     let row = 3 * plane as usize + 2;
-    prepared[row].up.as_ref()
+    match &prepared[row].up {
+        None => None,
+        Some(up) => Some(up.plane()),
+    }
 }

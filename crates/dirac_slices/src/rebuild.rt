@@ -51,11 +51,11 @@ fn inter_picture<R: Threads + Sync, G: RowGate>(
 }
 
 /// The picture that a coded picture stands for, made by that many workers. A map of rows makes the residual planes, but
-/// for a last level that can wait, and the upconverted planes of its references. Then each worker makes its share of
-/// the rows of each plane, and writes it where it belongs. Each worker passes the gate before it works on a row of the
-/// map, and before its share, whose number is the worker's. Threads are started for both, so twice for a picture, and
-/// once more where `read_planes_rows` reads its subbands. A small intra picture has one map alone, whose rows are its
-/// planes.
+/// for a last level that can wait, and those upconverted planes of its references that aren't kept. Then each worker
+/// makes its share of the rows of each plane, and writes it where it belongs. Each worker passes the gate before it
+/// works on a row of the map, and before its share, whose number is the worker's. Threads are started for both, so
+/// twice for a picture, and once more where `read_planes_rows` reads its subbands. A small intra picture has one map
+/// alone, whose rows are its planes.
 pub fn rebuild_rows<R: Threads + Sync, G: RowGate>(
     rt: &R,
     alloc: Global,

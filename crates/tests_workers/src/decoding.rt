@@ -15,8 +15,8 @@ const STREAM: [u8; 95] = [
     0x80, 0x80, 0x42, 0x42, 0x43, 0x44, 0x10, 0x00, 0x00, 0x00, 0x00, 0x00, 0x00, 0x00, 0x20,
 ];
 
-// The first picture has its residual planes as rows; the second, without a residual, the planes of its reference and
-// the slices.
+// The first picture has its residual planes as rows; the second, without a residual, has three calls: the half samples
+// of its reference, what its slices are made of, and its slices.
 #[test]
 fn two_workers_share_the_rows_of_each_call(rt: HostRuntime) -> Result<(), NoMemory> {
     let alloc = rt.alloc();
@@ -33,13 +33,13 @@ fn two_workers_share_the_rows_of_each_call(rt: HostRuntime) -> Result<(), NoMemo
         assert_eq!(rt; ended, Decoded::Done(tally));
         assert_eq!(rt; out.taken().len(), 192);
         assert!(rt; out.taken().iter().all(|byte| *byte == 0x80));
-        assert_eq!(rt; gate.calls(), Some(3), "row {held} held");
+        assert_eq!(rt; gate.calls(), Some(4), "row {held} held");
     }
     Ok(())
 }
 
 // Each of two pictures that aren't small has three calls: the orientations of its subbands, what its slices are made
-// of, and its slices.
+// of, and its slices. The second has one more between them: the half samples of its reference.
 #[test]
 fn two_workers_share_the_subbands(rt: HostRuntime) -> Result<(), NoMemory> {
     let alloc = rt.alloc();
@@ -56,7 +56,7 @@ fn two_workers_share_the_subbands(rt: HostRuntime) -> Result<(), NoMemory> {
         };
         assert_eq!(rt; ended, Decoded::Done(tally));
         assert_eq!(rt; out.taken(), made.shown.taken());
-        assert_eq!(rt; gate.calls(), Some(6), "row {held} held");
+        assert_eq!(rt; gate.calls(), Some(7), "row {held} held");
     }
     Ok(())
 }
@@ -85,9 +85,9 @@ fn two_workers_decode_a_picture_each(rt: HostRuntime) -> Result<(), NoMemory> {
     Ok(())
 }
 
-// An intra picture and the picture behind it that refers to it have three calls each. The two between them, which refer
-// to both, have three together: the half samples of either reference, and then each is decoded whole by one of the
-// workers.
+// An intra picture has three calls, the picture behind it that refers to it four, with the half samples of the first.
+// The two between them, which refer to both, have two together: the half samples of the second one, since those of the
+// first are kept, and then each is decoded whole by one of the workers.
 #[test]
 fn two_workers_decode_what_refers_to_the_same_pictures(rt: HostRuntime) -> Result<(), NoMemory> {
     let alloc = rt.alloc();

@@ -14,4 +14,4 @@ pub returns-clause-first : goal.returns-clause-first
 returns-clause-first c = sym c.in-Some.ensures
 
 pub returns-clause-second : goal.returns-clause-second
-returns-clause-second c = c.named-second.ensures
+returns-clause-second c = c.named_reference-second.ensures

@@ -1,4 +1,4 @@
-use Rattle.std.proofs.Common.{◌+◌, ◌*◌, arith, refl}
+use Rattle.std.proofs.Common.{◌+◌, ◌*◌, arith, refl, ◌∙◌}
 use Rattle.dirac_slices.specs.Given.{lent_inter}
 use Rattle.dirac_slices.proofs.Preparing.{up_lent, up_made}
 use Rattle.dirac_slices.proofs.prepared.first_up.Goals as goal
@@ -18,4 +18,5 @@ unreachable-requires c =
 
 pub returns : goal.returns
 returns c =
-    up_lent (lent_inter c.args.inter.now) c.args.plane (3 * c.args.plane + 1) c.args.prepared.now c.index-prepared-row.result c.in-Some.up c.requires.plane refl c.requires.prepared c.in-Some.is
+    c.plane.ensures
+    ∙ up_lent (lent_inter c.args.inter.now) c.args.plane (3 * c.args.plane + 1) c.args.prepared.now c.index-prepared-row.result c.in-Some.up c.requires.plane refl c.requires.prepared c.in-Some.is

@@ -16,8 +16,8 @@ returns-in-None-clause-up c =
 pub with_up-requires-clause-sequence : goal.with_up-requires-clause-sequence
 with_up-requires-clause-sequence c = c.requires.inter.sequence
 
-pub with_up-requires-clause-picture : goal.with_up-requires-clause-picture
-with_up-requires-clause-picture c = c.requires.inter.second c.in-Some.second.now (ap option_copied c.in-Some.is)
+pub with_up-requires-clause-reference : goal.with_up-requires-clause-reference
+with_up-requires-clause-reference c = c.requires.inter.second c.in-Some.second.now (ap option_copied c.in-Some.is)
 
 pub returns-in-Some-clause-residual : goal.returns-in-Some-clause-residual
 returns-in-Some-clause-residual c = c.with_up.ensures.residual
