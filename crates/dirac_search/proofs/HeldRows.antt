@@ -1,13 +1,10 @@
 -- Rows of samples that are compared in bytes.
-use Rattle.std.proofs.Common.{◌≡◌, ℕ, zero, suc, ℤ, pos, negsuc, ◌+◌, ◌-◌, ◌*◌, ◌/◌, ◌%◌, ◌^◌, ◌<◌, ◌≤◌, ◌+ℤ◌, ◌-ℤ◌, ◌*ℤ◌, List, length, take, get_or, refl, ap, ap₂, sym, ◌∙◌, arith, inl, inr, subst}
-use Rattle.std.proofs.lemmas.Bool.{cases_lt}
+use Rattle.std.proofs.Common.{◌≡◌, ℕ, zero, suc, ℤ, pos, negsuc, ◌+◌, ◌-◌, ◌*◌, ◌/◌, ◌%◌, ◌^◌, ◌<◌, ◌≤◌, ◌+ℤ◌, ◌-ℤ◌, ◌*ℤ◌, List, get_or, refl, ap, ap₂, sym, ◌∙◌, arith, subst}
 use Rattle.std.proofs.lemmas.Int.{ints}
-use Rattle.std.proofs.lemmas.List.{get_or-take, get_or-append_right, length-take-le}
 use Rattle.std.proofs.lemmas.Nat.{row_fits}
-use Rattle.std.proofs.lemmas.Slice.{take-put_mid, take-put_mid_below}
-use borrow.Rule.Slice.PartMut.{put_mid}
 use Rattle.dirac_common.specs.Table.{Table, clamped_at, clamped_to, table_at}
 use Rattle.dirac_common.specs.declared.formats.Vector.{Vector}
+use Rattle.dirac_upconvert.specs.Phases.{AreLines}
 use Rattle.dirac_upconvert.specs.SubSamples.{IsUp, Up, bilinear, sum_of_four, place_at, rest_at, rounded, sub_sample}
 use Rattle.dirac_upconvert.proofs.PartRows.{four_at_place}
 use Rattle.dirac_upconvert.proofs.SampleRows.{sample_of_part}
@@ -20,34 +17,10 @@ use Rattle.dirac_search.specs.declared.byte_sums.Strided.{Strided}
 use Rattle.dirac_search.specs.declared.bytes.Bytes.{Bytes}
 use Rattle.dirac_search.specs.declared.sub_bytes.Spot.{Spot}
 use Rattle.dirac_search.specs.declared.tried.Tried.{Tried}
-use Rattle.dirac_search.specs.InBytes.{AreBytes, AreHalfSampleLines, HasSpot, HasAllSamplesOfWindow, IsSpot, apart_from_mean, corners_at, half_line, mean_behind, row_at, start_of, strided_means, strided_rows}
+use Rattle.dirac_search.specs.InBytes.{AreBytes, HasSpot, HasAllSamplesOfWindow, IsSpot, apart_from_mean, corners_at, mean_behind, row_at, start_of, strided_means, strided_rows}
 use Rattle.dirac_search.specs.Rows.{apart_at, sub_row_apart, sub_row_from}
 use Rattle.dirac_search.specs.Tried.{sub_sum}
 use Rattle.dirac_search.proofs.Differences.{apart_same, inside_place}
-
--- a list of which a part is written over: before that part, and in it
-line_before : (a k n : ℕ) (xs ws : List ℤ) → n < a → a ≤ length xs → get_or (put_mid a k xs ws) n (pos 0) ≡ get_or xs n (pos 0)
-line_before a k n xs ws l fits =
-    sym (get_or-take a (put_mid a k xs ws) n (pos 0) l) ∙ ap (λ ys. get_or ys n (pos 0)) (take-put_mid_below a k xs ws a (omega arith) fits)
-    ∙ get_or-take a xs n (pos 0) l
-
-line_inside : (a k n : ℕ) (xs ws : List ℤ) → n < length ws → a ≤ length xs → get_or (put_mid a k xs ws) (a + n) (pos 0) ≡ get_or ws n (pos 0)
-line_inside a k n xs ws l fits =
-    let same : a + n - a ≡ n = omega arith in
-    sym (get_or-take (a + length ws) (put_mid a k xs ws) (a + n) (pos 0) (omega arith))
-    ∙ ap (λ ys. get_or ys (a + n) (pos 0)) (take-put_mid a k xs ws (a + length ws) refl fits)
-    ∙ get_or-append_right (take a xs) ws a (a + n) (pos 0) (length-take-le a xs fits) (omega arith)
-    ∙ ap (λ i. get_or ws i (pos 0)) same
-
--- one more line is written
-pub lines_more : (c j m a q : ℕ) (f : ℕ → ℕ → ℤ) (xs ws : List ℤ) → ((k n : ℕ) → k < c → n < j → get_or xs (n * c + k) (pos 0) ≡ f k n) → a ≡ j * c → length ws ≡ c → a + c ≤ length xs → m ≡ suc j
-    → ((k : ℕ) → k < c → get_or ws k (pos 0) ≡ f k j) → (k n : ℕ) → k < c → n < m → get_or (put_mid a q xs ws) (n * c + k) (pos 0) ≡ f k n
-lines_more c j m a q f xs ws h start len fits next row k n across l = elim (cases_lt n j) [
-  | inl before ↦ line_before a q (n * c + k) xs ws (omega (arith, row_fits n c j c before (omega arith), across, start)) (omega (arith, fits)) ∙ h k n across before
-  | inr past ↦
-      let here : n ≡ j = omega (arith, l, past, next) in
-      rw here (ap (λ i. get_or (put_mid a q xs ws) (i + k) (pos 0)) (sym start) ∙ line_inside a q k xs ws (omega (arith, across, len)) (omega (arith, fits)) ∙ row k across)
-]
 
 -- a position of whole places
 place_zero : (x : ℤ) → place_at x 0 ≡ x
@@ -70,24 +43,6 @@ spot_two q n e = rw e (record { place = refl; rest = omega (arith, ints); near =
 clamped_inside : (t : Table) (x y : ℤ) (i j : ℕ) → x ≡ pos i → y ≡ pos j → i < t.width → j < t.height → clamped_at t x y ≡ table_at t i j
 clamped_inside t x y i j ex ey l k = ap₂ (λ (a b : ℕ). table_at t a b) (inside_place x i t.width ex l) (inside_place y j t.height ey k)
 
--- samples of a row that are a whole sample apart are those of a line
-pub line_sample : (u : Up) (n k : ℕ) → u.table.width ≡ 2 * u.width - 1 → u.table.height ≡ 2 * u.height - 1 → k < u.width - 1 → n < 2 * (2 * u.height - 1)
-    → sub_sample u 1 (pos (n % 2) +ℤ pos (2 ^ 1 * k)) (pos (n / 2)) ≡ half_line u k n
-line_sample u n k ew eh l down =
-    let t = u.table in
-    let p = pos (n % 2) in
-    let y = pos (n / 2) in
-    let rem : n % 2 < 2 = omega arith in
-    let column : p +ℤ pos (2 * k) ≡ pos (2 * k + n % 2) = omega (arith, ints) in
-    let row : y +ℤ pos (2 * 0) ≡ pos (n / 2) = omega (arith, ints) in
-    let back : y +ℤ pos (2 ^ 1 * 0) ≡ y = omega (arith, ints) in
-    sym (sample_of_part u 1 0 p y 0 k (omega arith) refl ∙ ap (λ (b : ℤ). sub_sample u 1 (p +ℤ pos (2 ^ 1 * k)) b) back)
-    ∙ ap₂ (λ (a b : ℤ). rounded (2 * 0) (bilinear t (2 ^ 0) (a +ℤ pos (2 * k)) (b +ℤ pos (2 * 0)) (rest_at p 0) (rest_at y 0))) (place_zero p) (place_zero y)
-    ∙ ap₂ (λ (a b : ℤ). rounded (2 * 0) (bilinear t (2 ^ 0) (p +ℤ pos (2 * k)) (y +ℤ pos (2 * 0)) a b)) (rest_zero p) (rest_zero y)
-    ∙ four_at_place 0 (clamped_at t (p +ℤ pos (2 * k)) (y +ℤ pos (2 * 0))) (clamped_at t ((p +ℤ pos (2 * k)) +ℤ pos 1) (y +ℤ pos (2 * 0)))
-    (clamped_at t (p +ℤ pos (2 * k)) ((y +ℤ pos (2 * 0)) +ℤ pos 1)) (clamped_at t ((p +ℤ pos (2 * k)) +ℤ pos 1) ((y +ℤ pos (2 * 0)) +ℤ pos 1)) (omega arith)
-    ∙ clamped_inside t (p +ℤ pos (2 * k)) (y +ℤ pos (2 * 0)) (2 * k + n % 2) (n / 2) column row (omega (arith, ew)) (omega (arith, eh))
-
 -- a sample of a row that a table has
 source_place : (t : Table) (values : List ℤ) (x y first k : ℕ) → values ≡ t.values → first ≡ y * t.width + x → y < t.height → x + 8 ≤ t.width → k < 8
     → values_from values first k ≡ row_from t x y k
@@ -98,10 +53,10 @@ source_place t values x y first k ev e inside fits l =
     ap₂ (λ (vs : List ℤ) (i : ℕ). get_or vs i (pos 0)) ev at ∙ ap₂ (λ (i j : ℕ). get_or t.values (j * t.width + i) (pos 0)) (sym column) (sym row)
 
 -- a sample of a line, k places behind the start of row r
-half_place : (u : Up) (values : List ℤ) (x y r k at : ℕ) → AreHalfSampleLines u values → at ≡ start_of (u.width - 1) x y + r * (4 * (u.width - 1))
-    → x + 2 * k < 2 * (u.width - 1) → (y + 2 * r) < 2 * u.height - 1 → values_from values at k ≡ table_at u.table (x + 2 * k) (y + 2 * r)
-half_place u values x y r k at are e across down =
-    let c = u.width - 1 in
+half_place : (u : Up) (values : List ℤ) (x y r k at : ℕ) → u.table.width ≡ 2 * u.width - 1 → u.table.height ≡ 2 * u.height - 1 → AreLines u.table u.width values → at ≡ start_of u.width x y + r * (4 * u.width)
+    → x + 2 * k < 2 * u.width - 1 → (y + 2 * r) < 2 * u.height - 1 → values_from values at k ≡ table_at u.table (x + 2 * k) (y + 2 * r)
+half_place u values x y r k at ew eh are e across down =
+    let c = u.width in
     let n = 2 * (y + 2 * r) + x % 2 in
     let i = x / 2 + k in
     let rem : x % 2 < 2 = omega arith in
@@ -109,7 +64,7 @@ half_place u values x y r k at are e across down =
     let place : at + k ≡ n * c + i = place_is c (x % 2) (x / 2) y r k at e in
     let column : 2 * i + n % 2 ≡ x + 2 * k = omega arith in
     let row : n / 2 ≡ y + 2 * r = omega arith in
-    ap (λ j. get_or values j (pos 0)) place ∙ are.value i n (omega arith) (omega arith) ∙ ap₂ (λ (a b : ℕ). table_at u.table a b) column row
+    ap (λ j. get_or values j (pos 0)) place ∙ are.value i n (omega (arith, ew)) (omega (arith, eh)) ∙ ap₂ (λ (a b : ℕ). table_at u.table a b) column row
   where
     place_is : (c odd half y r k at : ℕ) → at ≡ ((2 * y + odd) * c + half) + r * (4 * c) → at + k ≡ (2 * (y + 2 * r) + odd) * c + (half + k)
     place_is c odd half y r k at e = omega (arith, e)
@@ -132,8 +87,8 @@ sample_at_part u q x y r k v m n some few h o =
 -- a row of eight samples that are places
 row_of_places : (s : Table) (u : Up) (q x y r : ℕ) (v : Vector) (m n : Spot) (a b : List ℤ) (first at : ℕ) → 1 ≤ q → q ≤ 2 → IsSpot q x v.x m → IsSpot q y v.y n → m.rest ≡ 0 → n.rest ≡ 0
     → u.table.width ≡ 2 * u.width - 1 → u.table.height ≡ 2 * u.height - 1
-    → a ≡ s.values → AreHalfSampleLines u b → first ≡ (y + r) * s.width + x → y + r < s.height → x + 8 ≤ s.width
-    → at ≡ start_of (u.width - 1) m.place n.place + r * (4 * (u.width - 1)) → m.place + 14 < 2 * (u.width - 1) → n.place + 2 * r < 2 * u.height - 1
+    → a ≡ s.values → AreLines u.table u.width b → first ≡ (y + r) * s.width + x → y + r < s.height → x + 8 ≤ s.width
+    → at ≡ start_of u.width m.place n.place + r * (4 * u.width) → m.place + 14 < 2 * u.width - 1 → n.place + 2 * r < 2 * u.height - 1
     → sum_below (apart_at a first b at) 8 ≡ sub_row_apart s u q x (y + r) v 8
 unfolding apart_at sub_row_apart
 row_of_places s u q x y r v m n a b first at some few h o none_right none_below ew eh es are ef inside fits eat fx fy =
@@ -142,7 +97,7 @@ row_of_places s u q x y r v m n a b first at some few h o none_right none_below 
     (λ k l.
     let px = pos m.place +ℤ pos (2 * k) in
     let py = pos n.place +ℤ pos (2 * r) in
-    half_place u b m.place n.place r k at are eat (omega (arith, fx, l)) fy
+    half_place u b m.place n.place r k at ew eh are eat (omega (arith, fx, l)) fy
     ∙ sym (clamped_inside u.table px py (m.place + 2 * k) (n.place + 2 * r) refl refl (omega (arith, fx, l, ew)) (omega (arith, fy, eh)))
     ∙ sym (four_at_place (q - 1) (clamped_at u.table px py) (clamped_at u.table (px +ℤ pos 1) py) (clamped_at u.table px (py +ℤ pos 1)) (clamped_at u.table (px +ℤ pos 1) (py +ℤ pos 1)) (omega arith))
     ∙ ap₂ (λ (i j : ℕ). rounded (2 * (q - 1)) (bilinear u.table (2 ^ (q - 1)) px py (pos i) (pos j))) (sym none_right) (sym none_below)
@@ -188,9 +143,9 @@ corners_mixed (suc zero) (suc (suc n)) p q r s few near = absurd (omega arith)
 -- a row of eight samples in quarters
 row_of_quarters : (s : Table) (u : Up) (x y r : ℕ) (v : Vector) (m n : Spot) (a b : List ℤ) (c : Corners) (first : ℕ) → IsSpot 2 x v.x m → IsSpot 2 y v.y n
     → u.table.width ≡ 2 * u.width - 1 → u.table.height ≡ 2 * u.height - 1
-    → a ≡ s.values → AreHalfSampleLines u b → first ≡ (y + r) * s.width + x → y + r < s.height → x + 8 ≤ s.width
-    → c.left ≡ start_of (u.width - 1) m.place n.place + r * (4 * (u.width - 1)) → c.right ≡ start_of (u.width - 1) (m.place + m.rest) n.place + r * (4 * (u.width - 1))
-    → c.under ≡ n.rest * (2 * (u.width - 1)) → m.place + 14 + m.rest < 2 * (u.width - 1) → n.place + 2 * r + n.rest < 2 * u.height - 1
+    → a ≡ s.values → AreLines u.table u.width b → first ≡ (y + r) * s.width + x → y + r < s.height → x + 8 ≤ s.width
+    → c.left ≡ start_of u.width m.place n.place + r * (4 * u.width) → c.right ≡ start_of u.width (m.place + m.rest) n.place + r * (4 * u.width)
+    → c.under ≡ n.rest * (2 * u.width) → m.place + 14 + m.rest < 2 * u.width - 1 → n.place + 2 * r + n.rest < 2 * u.height - 1
     → sum_below (apart_from_mean a first b c) 8 ≡ sub_row_apart s u 2 x (y + r) v 8
 unfolding apart_from_mean sub_row_apart
 row_of_quarters s u x y r v m n a b c first h o ew eh es are ef inside fits el en eu fx fy =
@@ -208,13 +163,13 @@ row_of_quarters s u x y r v m n a b c first h o ew eh es are ef inside fits el e
     let py = pos j +ℤ pos (2 * r) in
     let at = λ (m n : ℕ) (hm : m ≤ right) (hn : n ≤ below). corner t px py (i + 2 * k) (j + 2 * r) m n (omega (arith, hm, few)) (omega (arith, hn, near)) refl refl (omega (arith, fx, l, ew, hm)) (omega (arith, fy, eh, hn)) in
     let left_above : values_from b c.left k ≡ table_at t ((i + 2 * k) + 0) ((j + 2 * r) + 0) =
-    half_place u b i j r k c.left are el (omega (arith, fx, l)) (omega (arith, fy)) ∙ ap₂ (λ (m n : ℕ). table_at t m n) (none (i + 2 * k)) (none (j + 2 * r)) in
+    half_place u b i j r k c.left ew eh are el (omega (arith, fx, l)) (omega (arith, fy)) ∙ ap₂ (λ (m n : ℕ). table_at t m n) (none (i + 2 * k)) (none (j + 2 * r)) in
     let right_above : values_from b c.right k ≡ table_at t ((i + 2 * k) + right) ((j + 2 * r) + 0) =
-    half_place u b (i + right) j r k c.right are en (omega (arith, fx, l)) (omega (arith, fy)) ∙ ap₂ (λ (m n : ℕ). table_at t m n) (moved i right k) (none (j + 2 * r)) in
+    half_place u b (i + right) j r k c.right ew eh are en (omega (arith, fx, l)) (omega (arith, fy)) ∙ ap₂ (λ (m n : ℕ). table_at t m n) (moved i right k) (none (j + 2 * r)) in
     let left_below : values_from b (c.left + c.under) k ≡ table_at t ((i + 2 * k) + 0) ((j + 2 * r) + below) =
-    half_place u b i (j + below) r k (c.left + c.under) are (down_by (u.width - 1) (i % 2) (i / 2) j below r c.left c.under el eu) (omega (arith, fx, l)) (omega (arith, fy)) ∙ ap₂ (λ (m n : ℕ). table_at t m n) (none (i + 2 * k)) (moved j below r) in
+    half_place u b i (j + below) r k (c.left + c.under) ew eh are (down_by u.width (i % 2) (i / 2) j below r c.left c.under el eu) (omega (arith, fx, l)) (omega (arith, fy)) ∙ ap₂ (λ (m n : ℕ). table_at t m n) (none (i + 2 * k)) (moved j below r) in
     let right_below : values_from b (c.right + c.under) k ≡ table_at t ((i + 2 * k) + right) ((j + 2 * r) + below) =
-    half_place u b (i + right) (j + below) r k (c.right + c.under) are (down_by (u.width - 1) ((i + right) % 2) ((i + right) / 2) j below r c.right c.under en eu) (omega (arith, fx, l)) (omega (arith, fy)) ∙ ap₂ (λ (m n : ℕ). table_at t m n) (moved i right k) (moved j below r) in
+    half_place u b (i + right) (j + below) r k (c.right + c.under) ew eh are (down_by u.width ((i + right) % 2) ((i + right) / 2) j below r c.right c.under en eu) (omega (arith, fx, l)) (omega (arith, fy)) ∙ ap₂ (λ (m n : ℕ). table_at t m n) (moved i right k) (moved j below r) in
     ap₂ (λ (m n : ℤ). mean_of_four m n (values_from b (c.left + c.under) k) (values_from b (c.right + c.under) k)) (left_above ∙ at 0 0 (omega arith) (omega arith)) (right_above ∙ at right 0 (omega arith) (omega arith))
     ∙ ap₂ (λ (m n : ℤ). mean_of_four (clamped_at t px py) (pick right (clamped_at t px py) (clamped_at t (px +ℤ pos 1) py)) m n) (left_below ∙ at 0 below (omega arith) (omega arith)) (right_below ∙ at right below (omega arith) (omega arith))
     ∙ corners_mixed right below (clamped_at t px py) (clamped_at t (px +ℤ pos 1) py) (clamped_at t px (py +ℤ pos 1)) (clamped_at t (px +ℤ pos 1) (py +ℤ pos 1)) few near
@@ -237,38 +192,38 @@ source_row : (y w x r : ℕ) (left : Strided) → left.first ≡ y * w + x → l
 source_row y w x r left ef el = row_moved r left.first left.step (y * w + x) w ef el ∙ omega arith
 
 -- all rows of a window
-pub places_are : (s : Table) (u : Up) (q : ℕ) (x y : Spot) (t : Tried) (b : Bytes) (left right : Strided) → 1 ≤ q → q ≤ 2 → HasAllSamplesOfWindow s u q x y t → IsUp u.width u.height u.table → AreBytes s u b
-    → left.first ≡ t.window.y * s.width + t.window.x → left.step ≡ s.width → right.first ≡ start_of (u.width - 1) x.place y.place → right.step ≡ 4 * (u.width - 1)
-    → x.rest ≡ 0 → y.rest ≡ 0 → t.first + sum_below (strided_rows b.source.items left b.halves.items right) t.window.rows ≡ sub_sum s u q t
-places_are s u q x y t b left right some few held up bytes ef el er et none_x none_y =
+pub places_are : (s : Table) (u : Up) (q : ℕ) (x y : Spot) (t : Tried) (b : Bytes) (lines : List ℤ) (left right : Strided) → 1 ≤ q → q ≤ 2 → HasAllSamplesOfWindow s u q x y t → IsUp u.width u.height u.table → AreBytes s b → AreLines u.table u.width lines
+    → left.first ≡ t.window.y * s.width + t.window.x → left.step ≡ s.width → right.first ≡ start_of u.width x.place y.place → right.step ≡ 4 * u.width
+    → x.rest ≡ 0 → y.rest ≡ 0 → t.first + sum_below (strided_rows b.source.items left lines right) t.window.rows ≡ sub_sum s u q t
+places_are s u q x y t b lines left right some few held up bytes are ef el er et none_x none_y =
     let w = t.window in
     ap (λ n. t.first + n)
-    (sum_same (strided_rows b.source.items left b.halves.items right) (λ r. sub_row_apart s u q w.x (w.y + r) t.v w.columns) w.rows
+    (sum_same (strided_rows b.source.items left lines right) (λ r. sub_row_apart s u q w.x (w.y + r) t.v w.columns) w.rows
     (λ r l.
-    row_of_places s u q w.x w.y r t.v x y b.source.items b.halves.items (row_at left r) (row_at right r) some few held.across.spot held.down.spot none_x none_y
-    up.across up.down bytes.source bytes.halves (source_row w.y s.width w.x r left ef el) (omega (arith, held.source_bottom, l)) held.source_right
+    row_of_places s u q w.x w.y r t.v x y b.source.items lines (row_at left r) (row_at right r) some few held.across.spot held.down.spot none_x none_y
+    up.across up.down bytes are (source_row w.y s.width w.x r left ef el) (omega (arith, held.source_bottom, l)) held.source_right
     (row_moved r right.first right.step _ _ er et) (omega (arith, held.across.inside)) (omega (arith, held.down.inside, l))
     ∙ ap (sub_row_apart s u q w.x (w.y + r) t.v) (sym held.columns)))
 
-quarters_are : (s : Table) (u : Up) (x y : Spot) (t : Tried) (b : Bytes) (left : Strided) (c : Corners) (step : ℕ) → HasAllSamplesOfWindow s u 2 x y t → IsUp u.width u.height u.table → AreBytes s u b
-    → left.first ≡ t.window.y * s.width + t.window.x → left.step ≡ s.width → c.left ≡ start_of (u.width - 1) x.place y.place → c.right ≡ start_of (u.width - 1) (x.place + x.rest) y.place
-    → c.under ≡ y.rest * (2 * (u.width - 1)) → step ≡ 4 * (u.width - 1) → t.first + sum_below (strided_means b.source.items left b.halves.items c step) t.window.rows ≡ sub_sum s u 2 t
-quarters_are s u x y t b left c step held up bytes ef el er en eu et =
+quarters_are : (s : Table) (u : Up) (x y : Spot) (t : Tried) (b : Bytes) (lines : List ℤ) (left : Strided) (c : Corners) (step : ℕ) → HasAllSamplesOfWindow s u 2 x y t → IsUp u.width u.height u.table → AreBytes s b → AreLines u.table u.width lines
+    → left.first ≡ t.window.y * s.width + t.window.x → left.step ≡ s.width → c.left ≡ start_of u.width x.place y.place → c.right ≡ start_of u.width (x.place + x.rest) y.place
+    → c.under ≡ y.rest * (2 * u.width) → step ≡ 4 * u.width → t.first + sum_below (strided_means b.source.items left lines c step) t.window.rows ≡ sub_sum s u 2 t
+quarters_are s u x y t b lines left c step held up bytes are ef el er en eu et =
     let w = t.window in
     ap (λ n. t.first + n)
-    (sum_same (strided_means b.source.items left b.halves.items c step) (λ r. sub_row_apart s u 2 w.x (w.y + r) t.v w.columns) w.rows
+    (sum_same (strided_means b.source.items left lines c step) (λ r. sub_row_apart s u 2 w.x (w.y + r) t.v w.columns) w.rows
     (λ r l.
-    row_of_quarters s u w.x w.y r t.v x y b.source.items b.halves.items (corners_at c step r) (row_at left r) held.across.spot held.down.spot
-    up.across up.down bytes.source bytes.halves (source_row w.y s.width w.x r left ef el) (omega (arith, held.source_bottom, l)) held.source_right
+    row_of_quarters s u w.x w.y r t.v x y b.source.items lines (corners_at c step r) (row_at left r) held.across.spot held.down.spot
+    up.across up.down bytes are (source_row w.y s.width w.x r left ef el) (omega (arith, held.source_bottom, l)) held.source_right
     (row_moved r c.left step _ _ er et) (row_moved r c.right step _ _ en et) eu (omega (arith, held.across.inside)) (omega (arith, held.down.inside, l))
     ∙ ap (sub_row_apart s u 2 w.x (w.y + r) t.v) (sym held.columns)))
 
-pub quarters_at : (s : Table) (u : Up) (q : ℕ) (x y : Spot) (t : Tried) (b : Bytes) (left : Strided) (c : Corners) (step : ℕ) → q ≡ 2 → HasAllSamplesOfWindow s u q x y t → IsUp u.width u.height u.table → AreBytes s u b
-    → left.first ≡ t.window.y * s.width + t.window.x → left.step ≡ s.width → c.left ≡ start_of (u.width - 1) x.place y.place → c.right ≡ start_of (u.width - 1) (x.place + x.rest) y.place
-    → c.under ≡ y.rest * (2 * (u.width - 1)) → step ≡ 4 * (u.width - 1) → t.first + sum_below (strided_means b.source.items left b.halves.items c step) t.window.rows ≡ sub_sum s u q t
-quarters_at s u q x y t b left c step two held up bytes ef el er en eu et =
-    subst (λ (n : ℕ). t.first + sum_below (strided_means b.source.items left b.halves.items c step) t.window.rows ≡ sub_sum s u n t) (sym two)
-    (quarters_are s u x y t b left c step (subst (λ (n : ℕ). HasAllSamplesOfWindow s u n x y t) two held) up bytes ef el er en eu et)
+pub quarters_at : (s : Table) (u : Up) (q : ℕ) (x y : Spot) (t : Tried) (b : Bytes) (lines : List ℤ) (left : Strided) (c : Corners) (step : ℕ) → q ≡ 2 → HasAllSamplesOfWindow s u q x y t → IsUp u.width u.height u.table → AreBytes s b → AreLines u.table u.width lines
+    → left.first ≡ t.window.y * s.width + t.window.x → left.step ≡ s.width → c.left ≡ start_of u.width x.place y.place → c.right ≡ start_of u.width (x.place + x.rest) y.place
+    → c.under ≡ y.rest * (2 * u.width) → step ≡ 4 * u.width → t.first + sum_below (strided_means b.source.items left lines c step) t.window.rows ≡ sub_sum s u q t
+quarters_at s u q x y t b lines left c step two held up bytes are ef el er en eu et =
+    subst (λ (n : ℕ). t.first + sum_below (strided_means b.source.items left lines c step) t.window.rows ≡ sub_sum s u n t) (sym two)
+    (quarters_are s u x y t b lines left c step (subst (λ (n : ℕ). HasAllSamplesOfWindow s u n x y t) two held) up bytes are ef el er en eu et)
 
 -- rows that a list has
 pub source_fits : (s : Table) (len x y rows : ℕ) (left : Strided) → len ≡ s.width * s.height → left.first ≡ y * s.width + x → left.step ≡ s.width → x + 8 ≤ s.width → y + rows ≤ s.height
@@ -277,15 +232,15 @@ source_fits s len x y rows left len_is ef el right bottom r l =
     let whole : (y + r) * s.width + s.width ≤ s.height * s.width = row_fits (y + r) s.width s.height s.width (omega (arith, l, bottom)) (omega arith) in
     omega (arith, len_is, source_row y s.width x r left ef el, right, whole)
 
-pub lines_fit : (u : Up) (len i j rows : ℕ) (right : Strided) → len ≡ 2 * (2 * u.height - 1) * (u.width - 1) → right.first ≡ start_of (u.width - 1) i j → right.step ≡ 4 * (u.width - 1)
-    → i + 14 < 2 * (u.width - 1) → j + 2 * rows ≤ 2 * u.height → (r : ℕ) → r < rows → row_at right r + 8 ≤ len
-lines_fit u len i j rows right len_is ef es across down r l =
-    let c = u.width - 1 in
+pub lines_fit : (u : Up) (len i j rows : ℕ) (right : Strided) → u.table.height ≡ 2 * u.height - 1 → len ≡ 2 * u.table.height * u.width → right.first ≡ start_of u.width i j → right.step ≡ 4 * u.width
+    → i + 14 < 2 * u.width - 1 → j + 2 * rows ≤ 2 * u.height → (r : ℕ) → r < rows → row_at right r + 8 ≤ len
+lines_fit u len i j rows right eh len_is ef es across down r l =
+    let c = u.width in
     let n = 2 * (j + 2 * r) + i % 2 in
     let rem : i % 2 < 2 = omega arith in
-    let whole : n * c + c ≤ 2 * (2 * u.height - 1) * c = row_fits n c (2 * (2 * u.height - 1)) c (omega (arith, l, down)) (omega arith) in
+    let whole : n * c + c ≤ 2 * u.table.height * c = row_fits n c (2 * u.table.height) c (omega (arith, eh, l, down)) (omega arith) in
     let half : i / 2 + 8 ≤ c = omega (arith, across) in
-    at_row c (i % 2) (i / 2) j r (row_at right r) len (2 * (2 * u.height - 1) * c) (row_moved r right.first right.step _ _ ef es) len_is half whole
+    at_row c (i % 2) (i / 2) j r (row_at right r) len (2 * u.table.height * c) (row_moved r right.first right.step _ _ ef es) len_is half whole
   where
     at_row : (c odd half j r at len all : ℕ) → at ≡ ((2 * j + odd) * c + half) + r * (4 * c) → len ≡ all → half + 8 ≤ c → (2 * (j + 2 * r) + odd) * c + c ≤ all → at + 8 ≤ len
     at_row c odd half j r at len all e el fits whole = omega (arith, e, el, fits, whole)

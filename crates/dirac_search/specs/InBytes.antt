@@ -1,7 +1,7 @@
 -- Samples that are compared in bytes.
 use Rattle.std.specs.Prelude.{◌≡◌, ℕ, ℤ, pos, ◌+◌, ◌-◌, ◌*◌, ◌/◌, ◌%◌, ◌^◌, ◌<◌, ◌≤◌, ◌+ℤ◌, ◌-ℤ◌, List}
-use Rattle.std.specs.Prelude.{unsigned_abs, length, slice_index_or, Option, Some, None}
-use Rattle.dirac_common.specs.Table.{Table, table_at}
+use Rattle.std.specs.Prelude.{unsigned_abs, slice_index_or, Option, Some, None}
+use Rattle.dirac_common.specs.Table.{Table}
 use Rattle.dirac_upconvert.specs.SubSamples.{Up, place_at, rest_at}
 use Rattle.dirac_costs.specs.Sums.{sum_below}
 use Rattle.dirac_costs.specs.Windows.{values_from}
@@ -14,26 +14,13 @@ use Rattle.dirac_search.specs.declared.tried.Tried.{Tried}
 use Rattle.dirac_search.specs.Given.{Searched}
 use Rattle.dirac_search.specs.Rows.{apart_at}
 
--- sample k of line n of an upconverted plane: the even columns of a row, and in the next line its odd ones
-abbrev pub half_line : Up → ℕ → ℕ → ℤ
-half_line up k n = table_at up.table (2 * k + n % 2) (n / 2)
+-- the samples of a source
+abbrev pub AreBytes : Table → Bytes → Type 0
+AreBytes t b = b.source.items ≡ t.values
 
--- these lines, one behind another, each without the sample of the last column
-pub record AreHalfSampleLines (up : Up) (values : List ℤ) : Type 0 where
-  pub some_across : 1 ≤ up.width
-  pub some_down : 1 ≤ up.height
-  pub len : length values ≡ 2 * (2 * up.height - 1) * (up.width - 1)
-  pub value : (k n : ℕ) → k < up.width - 1 → n < 2 * (2 * up.height - 1)
-      → slice_index_or values (n * (up.width - 1) + k) (pos 0) ≡ half_line up k n
-
--- the samples of a source and the lines of an upconverted reference
-pub record AreBytes (t : Table) (up : Up) (b : Bytes) : Type 0 where
-  pub source : b.source.items ≡ t.values
-  pub halves : AreHalfSampleLines up b.halves.items
-
--- those of a search
+-- the samples of the source of a search
 abbrev pub AreBytesOf : Searched → Bytes → Type 0
-AreBytesOf g b = AreBytes (slice_index_or g.source 0 no_plane) g.up b
+AreBytesOf g b = AreBytes (slice_index_or g.source 0 no_plane) b
 
 -- where there are any
 abbrev pub AreGiven : Searched → Option Bytes → Type 0
@@ -93,9 +80,9 @@ pub record HasAllSamplesOfWindow (source : Table) (up : Up) (precision : ℕ) (x
   pub columns : t.window.columns ≡ 8
   pub source_right : t.window.x + 8 ≤ source.width
   pub source_bottom : t.window.y + t.window.rows ≤ source.height
-  pub across : IsSpotBefore precision t.window.x t.v.x 8 (2 * up.width - 1) x
+  pub across : IsSpotBefore precision t.window.x t.v.x 8 (2 * up.width) x
   pub down : IsSpotBefore precision t.window.y t.v.y t.window.rows (2 * up.height) y
 
--- where column x of row y of the samples and half samples stands among lines of so many columns
+-- where column x of row y of the samples and half samples stands among lines of so many places
 abbrev pub start_of : ℕ → ℕ → ℕ → ℕ
-start_of columns x y = (2 * y + x % 2) * columns + x / 2
+start_of places x y = (2 * y + x % 2) * places + x / 2

@@ -12,7 +12,7 @@ use Rattle.dirac_search.specs.Fields.{HasFormerField, IsSearch, IsStage, best_of
 use Rattle.dirac_search.specs.Given.{searched_of, lent}
 use Rattle.dirac_search.specs.InBytes.{AreGiven}
 
--- settings and sizes are in their ranges, the settings have the stage, what is compared in bytes is what is searched,
+-- settings and sizes are in their ranges, the settings have the stage, the bytes are the samples of the source,
 -- and the vectors before it are there
 pub record IsStaged (x : Staged) (before : Option Vectors) : Type 0 where
   pub search : IsSearch (searched_of x.search.now) x.settings.now

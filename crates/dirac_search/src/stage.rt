@@ -35,6 +35,6 @@ pub(crate) struct Staged<'a, 's, 't, 'b> {
     pub(crate) search: &'a Search<'s>,
     pub(crate) stage: Stage,
     pub(crate) settings: &'t Settings,
-    /// What is compared in bytes, where there is anything of that.
+    /// The source's samples in bytes, where they are compared so.
     pub(crate) bytes: Option<&'b Bytes>,
 }

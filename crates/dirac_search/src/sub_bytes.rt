@@ -1,4 +1,4 @@
-ghost use Rattle.std.specs.Prelude.{◌≡◌, pos, ◌+◌, ◌-◌, ◌*◌, ◌^◌, ◌≤◌, unsigned_abs, IsTrue, IfSome, length};
+ghost use Rattle.std.specs.Prelude.{◌≡◌, pos, ◌+◌, ◌*◌, ◌^◌, ◌≤◌, unsigned_abs, IsTrue, IfSome, length};
 ghost use Rattle.dirac_upconvert.specs.SubSamples.{IsUp};
 ghost use Rattle.dirac_search.specs.Costs.{StopsAt};
 ghost use Rattle.dirac_search.specs.InBytes.{AreBytes, HasSpot, HasAllSamplesOfWindow, IsSpotBefore};
@@ -98,25 +98,25 @@ fn source_rows(source: &Plane, window: Window) -> Strided
     }
 }
 
-/// Where column `x` of row `y` of the samples and half samples stands among lines of so many columns.
+/// Where column `x` of row `y` of the samples and half samples stands among lines of so many places.
 #[inline(always)]
-fn start_of(columns: usize, x: usize, y: usize) -> usize
-    requires columns { columns ≤ 4096 }
+fn start_of(places: usize, x: usize, y: usize) -> usize
+    requires places { places ≤ 4096 }
     requires x { x ≤ 2 ^ 26 }
     requires y { y ≤ 2 ^ 26 }
-    ensures { result ≡ the_start columns x y }
+    ensures { result ≡ the_start places x y }
 {
-    (2 * y + x % 2) * columns + x / 2
+    (2 * y + x % 2) * places + x / 2
 }
 
-/// The number of samples of a line.
+/// The number of places of a line.
 #[inline(always)]
-fn line_columns(up: &UpPlane) -> usize
-    ensures value { result ≡ up.now.width - 1 }
+fn line_places(up: &UpPlane) -> usize
+    ensures value { result ≡ up.now.width }
     ensures at_most_4096 { result ≤ 4096 }
     ensures lawful { IsUp up.now.width up.now.height up.now.table }
 {
-    up.width() as usize - 1
+    up.width() as usize
 }
 
 /// Sums a window as `sub_below` does, where the spots are places.
@@ -130,7 +130,7 @@ fn places_below(
     y: Spot,
     tried: Tried,
 ) -> Option<u32>
-    requires bytes { AreBytes source.now up.now bytes.now }
+    requires bytes { AreBytes source.now bytes.now }
     requires precision { (1 ≤ precision) × (precision ≤ 2) }
     requires tried { IsTried tried }
     requires held { HasAllSamplesOfWindow source.now up.now precision x y tried }
@@ -138,15 +138,15 @@ fn places_below(
     requires has_rows { 1 ≤ tried.window.rows }
     ensures { StopsAt tried.limit (sub_sum source.now up.now precision tried) result }
 {
-    let columns = line_columns(up);
+    let places = line_places(up);
     let rows = Strided {
-        first: start_of(columns, x.place, y.place),
-        step: 4 * columns,
+        first: start_of(places, x.place, y.place),
+        step: 4 * places,
     };
     rows_below(
         bytes.source.as_slice(),
         source_rows(source, tried.window),
-        bytes.halves.as_slice(),
+        up.lines(),
         rows,
         tried,
     )
@@ -163,25 +163,25 @@ fn quarters_below(
     y: Spot,
     tried: Tried,
 ) -> Option<u32>
-    requires bytes { AreBytes source.now up.now bytes.now }
+    requires bytes { AreBytes source.now bytes.now }
     requires quarters { precision ≡ 2 }
     requires tried { IsTried tried }
     requires held { HasAllSamplesOfWindow source.now up.now precision x y tried }
     requires has_rows { 1 ≤ tried.window.rows }
     ensures { StopsAt tried.limit (sub_sum source.now up.now precision tried) result }
 {
-    let columns = line_columns(up);
+    let places = line_places(up);
     let corners = Corners {
-        left: start_of(columns, x.place, y.place),
-        right: start_of(columns, x.place + x.rest, y.place),
-        under: y.rest * (2 * columns),
+        left: start_of(places, x.place, y.place),
+        right: start_of(places, x.place + x.rest, y.place),
+        under: y.rest * (2 * places),
     };
     means_below(
         bytes.source.as_slice(),
         source_rows(source, tried.window),
-        bytes.halves.as_slice(),
+        up.lines(),
         corners,
-        4 * columns,
+        4 * places,
         tried,
     )
 }
@@ -197,7 +197,7 @@ fn held_below(
     y: Spot,
     tried: Tried,
 ) -> Option<u32>
-    requires bytes { AreBytes source.now up.now bytes.now }
+    requires bytes { AreBytes source.now bytes.now }
     requires precision { (1 ≤ precision) × (precision ≤ 2) }
     requires tried { IsTried tried }
     requires held { HasAllSamplesOfWindow source.now up.now precision x y tried }
@@ -223,14 +223,14 @@ pub fn sub_below_in_bytes(
     precision: u8,
     tried: Tried,
 ) -> Option<u32>
-    requires bytes { AreBytes source.now up.now bytes.now }
+    requires bytes { AreBytes source.now bytes.now }
     requires precision { precision ≤ 3 }
     requires tried { IsTried tried }
     ensures { StopsAt tried.limit (sub_sum source.now up.now precision tried) result }
 {
     let window = tried.window;
     if 1 <= precision && precision <= 2 && is_inner(source, window) {
-        if let Some(x) = spot_before(precision, window.x, tried.v.x, 8, 2 * up.width() - 1) {
+        if let Some(x) = spot_before(precision, window.x, tried.v.x, 8, 2 * up.width()) {
             if let Some(y) = spot_before(
                 precision,
                 window.y,

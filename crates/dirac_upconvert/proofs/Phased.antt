@@ -7,7 +7,7 @@ use Rattle.std.proofs.lemmas.List.FromFn.{length-map-range_with_len}
 use Rattle.std.proofs.lemmas.Nat.{row_fits}
 use Rattle.dirac_common.specs.Table.{filled, table_at, table_of}
 use Rattle.dirac_common.proofs.Rows.{RowsFilled, filled_at, rows_all}
-use Rattle.dirac_upconvert.specs.Phases.{phase_at, place_in_row, table_of_phases}
+use Rattle.dirac_upconvert.specs.Phases.{AreLines, phase_at, place_in_row, table_of_phases}
 use Rattle.dirac_upconvert.proofs.Lanes.{part_read}
 
 -- even columns stand first, odd ones behind them
@@ -44,6 +44,33 @@ held_row columns rows y start end x samples across down es ee fits =
     let below = held_below (2 * columns) x even (omega arith) in
     part_read samples start end (place_in_row (2 * columns) x) (y * (2 * columns) + place_in_row (2 * columns) x) (omega (arith, below, ee)) (omega (arith, es))
     ∙ sym (filled_at (phase_at columns samples) (2 * columns - 1) (2 * rows - 1) x y across down)
+
+-- the rows, as lines of even columns and of odd ones
+line_place : (c n k : ℕ) → (n / 2) * (2 * c) + place_in_row (2 * c) (2 * k + n % 2) ≡ n * c + k
+line_place c n k =
+    let rem : n % 2 < 2 = omega arith in
+    let odd : (2 * k + n % 2) % 2 ≡ n % 2 = omega arith in
+    let half : (2 * k + n % 2) / 2 ≡ k = omega arith in
+    let whole : n ≡ 2 * (n / 2) + n % 2 = omega arith in
+    let columns : 2 * c / 2 ≡ c = omega arith in
+    rw (odd, half, columns) (at_line (n / 2) (n % 2) c k ∙ ap (λ m. m * c + k) (sym whole))
+  where
+    at_line : (row odd c k : ℕ) → row * (2 * c) + (odd * c + k) ≡ (2 * row + odd) * c + k
+    at_line row odd c k = omega arith
+
+pub held_lines : (columns rows places : ℕ) (values samples : List ℤ) → 1 ≤ columns → length samples ≡ (2 * rows - 1) * (2 * columns) → values ≡ samples → places ≡ columns
+    → AreLines (table_of_phases columns rows samples) places values
+held_lines columns rows places values samples some len same e =
+    rw (same, e)
+    (record {
+      len = len ∙ doubled (2 * rows - 1) columns;
+      value = λ k n across down.
+          ap (λ i. get_or samples i (pos 0)) (sym (line_place columns n k))
+          ∙ sym (filled_at (phase_at columns samples) (2 * columns - 1) (2 * rows - 1) (2 * k + n % 2) (n / 2) across (omega (arith, down)));
+    })
+  where
+    doubled : (a c : ℕ) → a * (2 * c) ≡ 2 * a * c
+    doubled a c = omega arith
 
 -- one more row is appended
 pub phases_more : (w j m : ℕ) (f : ℕ → ℕ → ℤ) (xs ws : List ℤ) → ((x y : ℕ) → x + 1 < 2 * w → y < j → phase_at w xs x y ≡ f x y) → length xs ≡ j * (2 * w) → m ≡ suc j

@@ -1,7 +1,7 @@
 ghost use Rattle.std.specs.Prelude.{◌≡◌, ℕ, pos, ◌+◌, ◌-◌, ◌*◌, ◌%◌, ◌<◌, ◌≤◌, length, slice_index_or};
 ghost use Rattle.dirac_common.specs.Table.{clamped_at, clamped_to, table_at};
 ghost use Rattle.dirac_upconvert.specs.HalfSamples.{IsSample};
-ghost use Rattle.dirac_upconvert.specs.Phases.{place_in_row, table_of_phases};
+ghost use Rattle.dirac_upconvert.specs.Phases.{AreLines, place_in_row, table_of_phases};
 
 use dirac_common::LARGEST_SIDE;
 use std::marker::Model;
@@ -97,6 +97,14 @@ impl Phases {
         ensures { result ≡ self.now.width + 1 }
     {
         2 * self.columns as usize
+    }
+
+    /// Lends the lines: of each row those of the even columns, then those of the odd ones, whose last place holds no
+    /// sample.
+    pub fn lines(&self) -> &[i8]
+        ensures { (places : ℕ) → self.now.width + 1 ≡ 2 * places → AreLines self.now places result.now }
+    {
+        self.samples.as_slice()
     }
 
     /// Lends the row that is nearest to place `y`.

@@ -3,7 +3,7 @@ ghost use Rattle.std.specs.Prelude.{slice_index_or, unsigned_abs, IfOk};
 ghost use Rattle.std.specs.List.{All};
 ghost use Rattle.dirac_common.specs.Table.{clamped_at, table_at};
 ghost use Rattle.dirac_upconvert.specs.HalfSamples.{IsSample, half, half_at, half_behind};
-ghost use Rattle.dirac_upconvert.specs.Phases.{phase_at, place_in_row};
+ghost use Rattle.dirac_upconvert.specs.Phases.{AreLines, phase_at, place_in_row};
 ghost use Rattle.dirac_upconvert.specs.Positions.{AreSamplesByFour, IsPositionNear, sample_from};
 ghost use Rattle.dirac_upconvert.specs.SubSamples.{IsUp, Up, place_at, rest_at, sub_sample};
 
@@ -244,6 +244,15 @@ impl UpPlane {
         ensures lawful { IsUp self.now.width self.now.height self.now.table }
     {
         self.height
+    }
+
+    /// Lends the samples and half samples, in lines of as many places as the plane has columns: of each row first its
+    /// even columns, and in the next line its odd ones; the last place of such a line holds no sample, and its value is
+    /// not told. So samples that are a whole sample apart stand side by side.
+    pub fn lines(&self) -> &[i8]
+        ensures { AreLines self.now.table self.now.width result.now }
+    {
+        self.table.lines()
     }
 
     /// Writes the samples of row `y` from column `x` on, a whole sample apart; both are counted in 2 to the power

@@ -116,3 +116,28 @@ fn positions_of_three_by_two(rt: HostRuntime) -> Result<(), NoMemory> {
         rows.as_slice(),
     )
 }
+
+#[test]
+fn lines_of_one_row_and_of_three(rt: HostRuntime) -> Result<(), NoMemory> {
+    let alloc = rt.alloc();
+    let up = upconverted(&rt, alloc, &plane(&rt, alloc, 2, 1, &[0, 32])?)?;
+    let lines = up.lines();
+    // the even columns, then the odd one; the last place is no sample
+    assert!(rt; lines.len() == 4);
+    assert!(rt; lines[0] == 0 && lines[1] == 32 && lines[2] == 16);
+    let up = upconverted(
+        &rt,
+        alloc,
+        &plane(&rt, alloc, 3, 2, &[10, -20, 30, 40, -50, 60])?,
+    )?;
+    let lines = up.lines();
+    assert!(rt; lines.len() == 18);
+    // of each row, and of the one between them, the even columns and then the odd ones; 0 stands for a last place
+    let wanted = [
+        10i8, -20, 30, -13, 0, 0, 25, -35, 45, -17, -4, 0, 40, -50, 60, -22, -9, 0,
+    ];
+    for k in 0..18 {
+        assert!(rt; k == 5 || k == 11 || k == 17 || lines[k] == wanted[k]);
+    }
+    Ok(())
+}

@@ -23,4 +23,4 @@ returns-in-None c =
 pub sub_below_in_bytes-requires-clause-bytes : goal.sub_below_in_bytes-requires-clause-bytes
 sub_below_in_bytes-requires-clause-bytes c =
     let g = searched_of c.args.staged.now.search.now in
-    subst (λ (t : Table). AreBytes t g.up c.in-Some.bytes.now) (sym c.level-source.ensures.value) (subst (AreGiven g) (ap lent c.in-Some.is) c.requires.bytes)
+    subst (λ (t : Table). AreBytes t c.in-Some.bytes.now) (sym c.level-source.ensures.value) (subst (AreGiven g) (ap lent c.in-Some.is) c.requires.bytes)
