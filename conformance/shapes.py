@@ -1,7 +1,7 @@
 #!/usr/bin/env python3
 """Writes the data of a test of the program: the streams shapes_* of this folder.
 
-shapes.py               writes crates/tests_devices/src/shape_streams.rt, and prints the rows of the test beside it: a
+shapes.py               writes crates/tests_commands/src/shape_streams.rt, and prints the rows of the test beside it: a
                         sum of what the plain decoder shows of each stream, and its tally; and sums of what the plain
                         encoder makes of raw pictures with some settings
 shapes.py --compare     writes nothing; ends with 1 where the file isn't what would be written
@@ -19,7 +19,7 @@ sys.path.insert(0, str(FOLDER.parent / "bench" / "reference"))
 import decoder
 import encoder
 
-TARGET = FOLDER.parent / "crates" / "tests_devices" / "src" / "shape_streams.rt"
+TARGET = FOLDER.parent / "crates" / "tests_commands" / "src" / "shape_streams.rt"
 BYTES_A_LINE = 16
 
 # settings beside width 8, height 8, and how many bytes of noise there are

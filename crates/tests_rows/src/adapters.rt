@@ -26,11 +26,12 @@ impl Read for Faltering {
 fn a_reader_that_fails_once(rt: HostRuntime) {
     let mut source = ReaderSource::new(Faltering { calls: 0 });
     let mut buf = [0; 8];
-    assert!(rt; source.read(&mut buf) == Got::Bytes(5));
-    assert!(rt; buf == [1, 2, 3, 4, 5, 0, 0, 0]);
-    assert!(rt; source.read(&mut buf) == Got::Failed);
-    assert!(rt; source.read(&mut buf) == Got::End);
-    assert!(rt; source.read(&mut buf) == Got::End);
+    let got = source.read(&mut buf);
+    assert!(rt; (got, buf) == (Got::Bytes(5), [1, 2, 3, 4, 5, 0, 0, 0]));
+    let first = source.read(&mut buf);
+    let second = source.read(&mut buf);
+    let third = source.read(&mut buf);
+    assert!(rt; (first, second, third) == (Got::Failed, Got::End, Got::End));
 }
 
 // A writer that takes nothing of its first piece, three bytes of the second one, fails once, and then takes all; its
@@ -77,13 +78,15 @@ fn a_writer_that_takes_nothing_or_fails_once(rt: HostRuntime) {
         flushes: 0,
     };
     let mut sink = WriterSink::new(&mut writer);
-    assert!(rt; sink.write(b"abcde") == Took::Failed);
+    let first = sink.write(b"abcde");
     // three bytes, and then the call that fails, which isn't made again
-    assert!(rt; put_all(&mut sink, b"fghij") == Put::Failed);
-    assert!(rt; sink.write(b"kl") == Took::Bytes(2));
-    assert!(rt; !sink.flush());
-    assert!(rt; sink.flush());
-    assert_eq!(rt; sink.fault_count(), 3);
-    assert_eq!(rt; writer.taken.as_slice(), b"fghkl".as_slice());
-    assert_eq!(rt; writer.flushes, 2);
+    let second = put_all(&mut sink, b"fghij");
+    let third = sink.write(b"kl");
+    assert!(rt; (first, second, third) == (Took::Failed, Put::Failed, Took::Bytes(2)));
+    let flushed = (sink.flush(), sink.flush());
+    assert_eq!(rt; (flushed, sink.fault_count()), ((false, true), 3));
+    assert_eq!(rt;
+        (writer.taken.as_slice(), writer.flushes),
+        (b"fghkl".as_slice(), 2)
+    );
 }

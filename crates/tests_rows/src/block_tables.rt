@@ -64,8 +64,10 @@ fn has_all_splits(table: &BlockData) -> bool {
 
 /// Compares every split and every block of two tables.
 fn are_same<R: Abort>(rt: &R, read: &BlockData, table: &BlockData) {
-    assert_eq!(rt; read.across(), table.across());
-    assert_eq!(rt; read.down(), table.down());
+    assert_eq!(rt;
+        (read.across(), read.down()),
+        (table.across(), table.down())
+    );
     for sy in 0..table.down() {
         for sx in 0..table.across() {
             assert_eq!(rt; read.split(sx, sy), table.split(sx, sy));
@@ -144,9 +146,13 @@ fn weights_of_blocks(rt: HostRuntime) {
     let first = [8u32, 8, 8, 8, 8, 8, 8, 8, 7, 5, 3, 1];
     let last = [1u32, 3, 5, 7, 8, 8, 8, 8, 8, 8, 8, 8];
     for t in 0..12usize {
-        assert_eq!(rt; weight(1, 3, 12, 8, t as u32), inner[t]);
-        assert_eq!(rt; weight(0, 3, 12, 8, t as u32), first[t]);
-        assert_eq!(rt; weight(2, 3, 12, 8, t as u32), last[t]);
+        let at = t as u32;
+        let found = [
+            weight(1, 3, 12, 8, at),
+            weight(0, 3, 12, 8, at),
+            weight(2, 3, 12, 8, at),
+        ];
+        assert_eq!(rt; found, [inner[t], first[t], last[t]], "at {at}");
     }
     let short = [3u32, 5, 5, 3];
     for t in 0..4usize {

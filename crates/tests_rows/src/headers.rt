@@ -61,8 +61,7 @@ fn an_intra_header(rt: HostRuntime) {
     let Ok(header) = read_header(&mut reader, 0x0C) else {
         panic!(rt; "an intra reference header");
     };
-    assert_eq!(rt; header.number, 0);
-    assert_eq!(rt; header.retire, None);
+    assert_eq!(rt; (header.number, header.retire), (0, None));
 }
 
 #[test]
@@ -73,10 +72,8 @@ fn an_inter_header(rt: HostRuntime) {
     let Ok(header) = read_header(&mut reader, 0x0D) else {
         panic!(rt; "an inter reference header");
     };
-    assert_eq!(rt; header.number, 1);
-    assert_eq!(rt; header.ref1, Some(0));
-    assert_eq!(rt; header.ref2, None);
-    assert_eq!(rt; header.retire, None);
+    assert_eq!(rt; (header.number, header.retire), (1, None));
+    assert_eq!(rt; (header.ref1, header.ref2), (Some(0), None));
 }
 
 #[test]
@@ -93,11 +90,13 @@ fn prediction_parameters(rt: HostRuntime) {
         xbsep: 8,
         ybsep: 8,
     };
-    assert_eq!(rt; prediction.grid, grid);
-    assert_eq!(rt; prediction.precision, 2);
-    assert_eq!(rt; prediction.weight_bits, 1);
-    assert_eq!(rt; prediction.weight1, 1);
-    assert_eq!(rt; prediction.weight2, 1);
+    assert_eq!(rt; (prediction.grid, prediction.precision), (grid, 2));
+    let weights = (
+        prediction.weight_bits,
+        prediction.weight1,
+        prediction.weight2,
+    );
+    assert_eq!(rt; weights, (1, 1, 1));
 }
 
 #[test]
@@ -118,10 +117,12 @@ fn transform_parameters(rt: HostRuntime) {
     let Ok(transform) = read_transform(&mut BitReader::new(bytes.as_slice()), 176, 144) else {
         panic!(rt; "transform parameters");
     };
-    assert_eq!(rt; transform.wavelet, 0);
-    assert_eq!(rt; transform.depth, 1);
-    assert_eq!(rt; transform.counts.len(), 2);
-    assert_eq!(rt; transform.counts.at(1), (1, 1));
+    let counts = &transform.counts;
+    assert_eq!(rt;
+        (transform.wavelet, transform.depth, counts.len()),
+        (0, 1, 2)
+    );
+    assert_eq!(rt; counts.at(1), (1, 1));
 }
 
 /// The answer of a band of one value, as its index and value, or its refusal.

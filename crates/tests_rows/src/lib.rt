@@ -20,8 +20,6 @@ mod half_samples;
 #[cfg(test)]
 mod headers;
 #[cfg(test)]
-mod intra_coding;
-#[cfg(test)]
 mod lifting;
 #[cfg(test)]
 mod lists;

@@ -12,19 +12,24 @@ fn numbered(alloc: Global, number: u32) -> Result<Picture, NoMemory> {
     })
 }
 
+/// Appends the number of a picture that has left.
+fn note(gone: &mut Vec<u32>, picture: Option<Picture>) -> Result<(), NoMemory> {
+    if let Some(picture) = picture {
+        gone.push(picture.number)?;
+    }
+    Ok(())
+}
+
 /// The numbers of pictures as they leave while these are pushed, and then the rest.
 fn delivered(alloc: Global, first: u32, numbers: &[u32]) -> Result<Vec<u32>, NoMemory> {
     let mut gone = Vec::new(alloc);
     let mut delivery = Delivery::new();
     for number in numbers {
-        if let Some(picture) = delivery.push(key(first, *number), numbered(alloc, *number)?) {
-            gone.push(picture.number)?;
-        }
+        let picture = numbered(alloc, *number)?;
+        note(&mut gone, delivery.push(key(first, *number), picture))?;
     }
     for _ in 0..4u8 {
-        if let Some(picture) = delivery.pop() {
-            gone.push(picture.number)?;
-        }
+        note(&mut gone, delivery.pop())?;
     }
     Ok(gone)
 }
@@ -32,16 +37,18 @@ fn delivered(alloc: Global, first: u32, numbers: &[u32]) -> Result<Vec<u32>, NoM
 #[test]
 fn pictures_in_order_of_delivery(rt: HostRuntime) -> Result<(), NoMemory> {
     let alloc = rt.alloc();
-    let coded = [0u32, 4, 1, 2, 3, 8];
-    assert!(rt;
-        delivered(alloc, 0, coded.as_slice())?.as_slice() == [0u32, 1, 2, 3, 4, 8].as_slice()
-    );
-    // numbers that pass 2^32: the key is signed
-    let coded = [4_294_967_295u32, 0, 4_294_967_294];
-    assert!(rt;
-        delivered(alloc, 4_294_967_295, coded.as_slice())?.as_slice()
-            == [4_294_967_294u32, 4_294_967_295, 0].as_slice()
-    );
+    let rows: [(u32, &[u32], &[u32]); 2] = [
+        (0, &[0, 4, 1, 2, 3, 8], &[0, 1, 2, 3, 4, 8]),
+        // numbers that pass 2^32: the key is signed
+        (
+            4_294_967_295,
+            &[4_294_967_295, 0, 4_294_967_294],
+            &[4_294_967_294, 4_294_967_295, 0],
+        ),
+    ];
+    for (first, coded, wanted) in rows {
+        assert!(rt; delivered(alloc, first, coded)?.as_slice() == wanted);
+    }
     Ok(())
 }
 
@@ -52,12 +59,13 @@ fn the_oldest_of_nine_leaves(rt: HostRuntime) -> Result<(), NoMemory> {
     for number in 0..9u32 {
         list.commit(None, Some(numbered(alloc, number)?));
     }
-    assert_eq!(rt; list.count(), 8);
-    assert!(rt; list.find(0).is_none());
-    assert!(rt; list.find(1).is_some());
-    assert!(rt; list.find(8).is_some());
+    let listed = [
+        list.find(0).is_some(),
+        list.find(1).is_some(),
+        list.find(8).is_some(),
+    ];
+    assert_eq!(rt; (list.count(), listed), (8, [false, true, true]));
     list.commit(Some(4), None);
-    assert_eq!(rt; list.count(), 7);
-    assert!(rt; list.find(4).is_none());
+    assert_eq!(rt; (list.count(), list.find(4).is_some()), (7, false));
     Ok(())
 }

@@ -1,4 +1,4 @@
-ghost use Rattle.std.specs.Prelude.{◌≡◌, ◌+◌, All, IsTrue, IfOk, length};
+ghost use Rattle.std.specs.Prelude.{◌≡◌, ◌+◌, ◌≤◌, All, IsTrue, IfOk, length};
 ghost use Rattle.dirac_upconvert.specs.HalfSamples.{IsSample};
 
 use dirac_common::{BlockGrid, NoMemory, OpenGate, Plane, Vector};
@@ -143,6 +143,31 @@ fn vectors_of(alloc: Global, field: &Field) -> Result<Vec<i32>, NoMemory> {
     Ok(vectors)
 }
 
+/// The field of a case, of a source's pyramid in the plane of its reference.
+fn found<R: Abort + Threads + Sync>(
+    rt: &R,
+    alloc: Global,
+    case: &Case<'_>,
+    source: &Pyramid,
+    moved: &Plane,
+) -> Result<Field, NoMemory>
+    requires levels { case.now.settings.pyramid ≡ case.now.levels }
+    requires workers { case.now.settings.workers ≡ 1 }
+    requires source { length source.now ≡ case.now.levels + 1 }
+{
+    let reference = pyramid(rt, alloc, moved, case.levels)?;
+    let up = upconverted(rt, alloc, moved)?;
+    searched(
+        rt,
+        alloc,
+        source,
+        &reference,
+        &up,
+        case.superblocks,
+        &case.settings,
+    )
+}
+
 /// Compares a field with what the other program found.
 fn shows<R: Abort + Threads + Sync>(rt: &R, alloc: Global, case: &Case<'_>) -> Result<(), NoMemory>
     requires levels { case.now.settings.pyramid ≡ case.now.levels }
@@ -150,19 +175,9 @@ fn shows<R: Abort + Threads + Sync>(rt: &R, alloc: Global, case: &Case<'_>) -> R
 {
     let (width, height) = case.size;
     let plane = texture(rt, alloc, width, height, (0, 0))?;
-    let moved = texture(rt, alloc, width, height, case.from)?;
     let source = pyramid(rt, alloc, &plane, case.levels)?;
-    let reference = pyramid(rt, alloc, &moved, case.levels)?;
-    let up = upconverted(rt, alloc, &moved)?;
-    let field = searched(
-        rt,
-        alloc,
-        &source,
-        &reference,
-        &up,
-        case.superblocks,
-        &case.settings,
-    )?;
+    let moved = texture(rt, alloc, width, height, case.from)?;
+    let field = found(rt, alloc, case, &source, &moved)?;
     assert_eq!(rt; vectors_of(alloc, &field)?.as_slice(), case.vectors);
     Ok(())
 }
@@ -219,31 +234,55 @@ fn level_above_a_row(rt: HostRuntime) -> Result<(), NoMemory> {
     Ok(())
 }
 
+/// The costs of the first block, moved by a column and still, of planes that are searched in themselves.
+fn costs(levels: &Pyramid, up: &UpPlane, bias: u32) -> [u64; 2]
+    requires levels { length levels.now ≡ 1 }
+    requires bias { bias ≤ 255 }
+{
+    let search = Search {
+        source: levels,
+        reference: levels,
+        up,
+        grid: grid(),
+        across: 1,
+        down: 1,
+    };
+    let settings = settings(0, 0, 1, bias);
+    let still = Vector { x: 0, y: 0 };
+    let moved = Vector { x: 1, y: 0 };
+    [
+        cost(&search, Stage::Coarse(0), &settings, 0, 0, moved),
+        cost(&search, Stage::Coarse(0), &settings, 0, 0, still),
+    ]
+}
+
+/// Compares the number of candidates of the first block, and which one is chosen where all cost the same.
+fn chooses<R: Abort>(rt: &R, alloc: Global, levels: &Pyramid, up: &UpPlane) -> Result<(), NoMemory>
+    requires levels { length levels.now ≡ 1 }
+{
+    let search = Search {
+        source: levels,
+        reference: levels,
+        up,
+        grid: grid(),
+        across: 1,
+        down: 1,
+    };
+    let settings = settings(0, 0, 1, 0);
+    let list = candidates(alloc, Stage::Coarse(0), &settings, None, 0, 0)?;
+    assert_eq!(rt; list.len(), 10);
+    let found = best(alloc, &search, Stage::Coarse(0), &settings, None, 0, 0)?;
+    assert_eq!(rt; (found.x, found.y), (0, 0));
+    Ok(())
+}
+
 #[test]
 fn costs_of_constant_planes(rt: HostRuntime) -> Result<(), NoMemory> {
     let alloc = rt.alloc();
     let plane = Plane::try_new(alloc, 4, 4, 5)?;
     let levels = pyramid(&rt, alloc, &plane, 0)?;
     let up = upconverted(&rt, alloc, &plane)?;
-    let search = Search {
-        source: &levels,
-        reference: &levels,
-        up: &up,
-        grid: grid(),
-        across: 1,
-        down: 1,
-    };
-    let biased = settings(0, 0, 1, 4);
-    let settings = settings(0, 0, 1, 0);
-    let still = Vector { x: 0, y: 0 };
-    let moved = Vector { x: 1, y: 0 };
-    assert_eq!(rt; cost(&search, Stage::Coarse(0), &biased, 0, 0, moved), 20);
-    assert_eq!(rt; cost(&search, Stage::Coarse(0), &biased, 0, 0, still), 8);
-    assert_eq!(rt; cost(&search, Stage::Coarse(0), &settings, 0, 0, moved), 0);
-    assert_eq!(rt; cost(&search, Stage::Coarse(0), &settings, 0, 0, still), 0);
-    let list = candidates(alloc, Stage::Coarse(0), &settings, None, 0, 0)?;
-    assert_eq!(rt; list.len(), 10);
-    let found = best(alloc, &search, Stage::Coarse(0), &settings, None, 0, 0)?;
-    assert_eq!(rt; (found.x, found.y), (0, 0));
-    Ok(())
+    assert_eq!(rt; costs(&levels, &up, 4), [20, 8]);
+    assert_eq!(rt; costs(&levels, &up, 0), [0, 0]);
+    chooses(&rt, alloc, &levels, &up)
 }

@@ -147,16 +147,33 @@ fn refuses<R: Abort>(
     }
 }
 
-/// The number of the next planned picture, where one is given while pictures may still come.
-fn given(planner: &mut Planner) -> Option<u32>
+/// Takes the next planned picture while pictures may still come, and compares its number, or that none is given.
+fn gives<R: Abort>(rt: &R, planner: &mut Planner, number: Option<u32>)
     requires { planner.old.ended ≡ false }
     ensures accepted { planner.new.accepted ≡ planner.old.accepted }
     ensures not_ended { planner.new.ended ≡ false }
 {
-    match planner.take(false) {
+    let given = match planner.take(false) {
         Some((planned, _)) => Some(planned.number),
         None => None,
-    }
+    };
+    assert_eq!(rt; given, number);
+}
+
+/// Pushes the first picture, which is given, and the four up to the first anchor, before which none is.
+fn fills<R: Abort>(rt: &R, alloc: Global, planner: &mut Planner) -> Result<(), NoMemory>
+    requires number { planner.old.accepted ≡ 0 }
+    requires not_ended { planner.old.ended ≡ false }
+    ensures number { OnOk result (planner.new.accepted ≡ 5) }
+    ensures not_ended { planner.new.ended ≡ false }
+{
+    accepts(rt, alloc, planner, 0)?;
+    gives(rt, planner, Some(0));
+    accepts(rt, alloc, planner, 1)?;
+    accepts(rt, alloc, planner, 2)?;
+    accepts(rt, alloc, planner, 3)?;
+    gives(rt, planner, None);
+    accepts(rt, alloc, planner, 4)
 }
 
 #[test]
@@ -165,23 +182,17 @@ fn planner_waits_for_an_anchor(rt: HostRuntime) -> Result<(), NoMemory> {
     let settings = settings_of_14();
     assert!(rt; settings.check().is_ok());
     let mut planner = Planner::try_new(alloc, &settings)?;
-    accepts(&rt, alloc, &mut planner, 0)?;
-    assert_eq!(rt; given(&mut planner), Some(0));
-    accepts(&rt, alloc, &mut planner, 1)?;
-    accepts(&rt, alloc, &mut planner, 2)?;
-    accepts(&rt, alloc, &mut planner, 3)?;
-    assert_eq!(rt; given(&mut planner), None);
-    accepts(&rt, alloc, &mut planner, 4)?;
-    assert_eq!(rt; given(&mut planner), Some(4));
+    fills(&rt, alloc, &mut planner)?;
+    gives(&rt, &mut planner, Some(4));
     refuses(&rt, alloc, &mut planner, 5)?;
-    assert_eq!(rt; given(&mut planner), Some(1));
-    assert_eq!(rt; given(&mut planner), Some(2));
+    gives(&rt, &mut planner, Some(1));
+    gives(&rt, &mut planner, Some(2));
     refuses(&rt, alloc, &mut planner, 5)?;
-    assert_eq!(rt; given(&mut planner), Some(3));
-    assert_eq!(rt; given(&mut planner), None);
+    gives(&rt, &mut planner, Some(3));
+    gives(&rt, &mut planner, None);
     accepts(&rt, alloc, &mut planner, 5)?;
     // the pictures have ended: a last anchor is given though fewer wait than a step has
-    assert_eq!(rt; planner.take(true).is_some(), true);
-    assert_eq!(rt; planner.take(true).is_none(), true);
+    let given = [planner.take(true).is_some(), planner.take(true).is_some()];
+    assert_eq!(rt; given, [true, false]);
     Ok(())
 }

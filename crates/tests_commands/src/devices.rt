@@ -109,6 +109,16 @@ fn stops_at_each_call<R: Abort + Threads + Sync>(
     Ok(())
 }
 
+// Nothing is shown before the third read of 10 bytes, nor by a first write that fails.
+fn shows_nothing_yet<R: Abort + Threads + Sync>(rt: &R, alloc: Global) -> Result<(), Fail> {
+    for (device, call) in [(Device::Source, 2), (Device::Out, 0)] {
+        let left = decoded(rt, alloc, &DECODE, &STREAM, &failing(device, 10, &[call]))?;
+        assert_eq!(rt; left.ended, fault_of(device));
+        assert!(rt; left.out.taken().is_empty());
+    }
+    Ok(())
+}
+
 #[test]
 fn stops_at_each_call_that_fails(rt: HostRuntime) -> Result<(), Fail> {
     let alloc = rt.alloc();
@@ -165,15 +175,5 @@ fn stops_at_each_call_that_fails(rt: HostRuntime) -> Result<(), Fail> {
         };
         stops_at_each_call(&rt, alloc, &whole, reads)?;
     }
-    // nothing is shown before the third read of 10 bytes, nor by a first write that fails
-    for device in [Device::Source, Device::Out] {
-        let call = match device {
-            Device::Source => 2,
-            _ => 0
-        };
-        let left = decoded(&rt, alloc, &DECODE, &STREAM, &failing(device, 10, &[call]))?;
-        assert_eq!(rt; left.ended, fault_of(device));
-        assert!(rt; left.out.taken().is_empty());
-    }
-    Ok(())
+    shows_nothing_yet(&rt, alloc)
 }

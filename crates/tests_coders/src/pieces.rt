@@ -1,5 +1,6 @@
-use dirac_common::{Cause, Fault};
+use dirac_common::{Cause, Fault, Picture};
 use dirac_push::{Answer, PushDecoder, Unsent, put_rows};
+use std::process::Abort;
 use std::test::Fail;
 
 // One intra picture of 2 by 2 samples, 4:4:4, by the Haar wavelet at depth 1: its LL band in luma has the value 1.
@@ -10,31 +11,49 @@ const SMALL: [u8; 64] = [
     0x80, 0x80, 0x80, 0x42, 0x42, 0x43, 0x44, 0x10, 0x00, 0x00, 0x00, 0x00, 0x00, 0x00, 0x00, 0x21,
 ];
 
-#[test]
-fn a_picture_leaves_with_the_last_byte_of_its_sequence(rt: HostRuntime) -> Result<(), Fail> {
-    let mut decoder = PushDecoder::new(rt.alloc());
+// Sends nothing, and then the stream byte by byte: the picture leaves with the last one.
+fn sends_each_byte<R: Abort>(rt: &R, decoder: &mut PushDecoder) {
     assert_eq!(rt; decoder.send(&[]), Ok(()));
     for byte in SMALL {
         assert_eq!(rt; decoder.next(), Answer::Needs);
         assert_eq!(rt; decoder.send(&[byte]), Ok(()));
     }
     assert_eq!(rt; decoder.next(), Answer::Shown);
+}
+
+// Copies planes of the picture, where there is room for them and where there is none.
+fn copies_planes<R: Abort>(rt: &R, picture: &Picture) {
     let mut out = [7; 8];
+    let written = put_rows(&picture.y, &mut out, 3);
+    assert_eq!(rt;
+        (written, out),
+        (true, [0x81, 0x81, 7, 0x81, 0x81, 7, 7, 7])
+    );
+    let written = put_rows(&picture.v, &mut out[..4], 2);
+    assert_eq!(rt;
+        (written, out),
+        (true, [0x80, 0x80, 0x80, 0x80, 0x81, 7, 7, 7])
+    );
+    let written = (
+        put_rows(&picture.u, &mut out, 1),
+        put_rows(&picture.u, &mut out[..4], 3),
+    );
+    assert_eq!(rt; written, (false, false));
+}
+
+#[test]
+fn a_picture_leaves_with_the_last_byte_of_its_sequence(rt: HostRuntime) -> Result<(), Fail> {
+    let mut decoder = PushDecoder::new(rt.alloc());
+    sends_each_byte(&rt, &mut decoder);
     if let Some(picture) = decoder.shown() {
         assert_eq!(rt; picture.number, 0);
-        assert!(rt; put_rows(&picture.y, &mut out, 3));
-        assert_eq!(rt; out, [0x81, 0x81, 7, 0x81, 0x81, 7, 7, 7]);
-        assert!(rt; put_rows(&picture.v, &mut out[..4], 2));
-        assert_eq!(rt; out, [0x80, 0x80, 0x80, 0x80, 0x81, 7, 7, 7]);
-        assert!(rt; !put_rows(&picture.u, &mut out, 1));
-        assert!(rt; !put_rows(&picture.u, &mut out[..4], 3));
+        copies_planes(&rt, picture);
     }
     assert_eq!(rt; decoder.format().map(|sequence| sequence.width), Some(2));
     assert_eq!(rt; decoder.next(), Answer::Needs);
     decoder.finish();
-    assert_eq!(rt; decoder.next(), Answer::End);
-    assert_eq!(rt; decoder.next(), Answer::End);
-    assert_eq!(rt; decoder.send(&[0]), Err(Unsent::Finished));
+    let ended = (decoder.next(), decoder.next(), decoder.send(&[0]));
+    assert_eq!(rt; ended, (Answer::End, Answer::End, Err(Unsent::Finished)));
     Ok(())
 }
 
@@ -49,8 +68,8 @@ fn a_stream_that_is_finished_inside_a_unit_is_cut(rt: HostRuntime) -> Result<(),
         at: 31,
         cause: Cause::Truncated,
     };
-    assert_eq!(rt; decoder.next(), Answer::Fault(cut));
-    assert_eq!(rt; decoder.next(), Answer::Fault(cut));
+    let ended = (decoder.next(), decoder.next());
+    assert_eq!(rt; ended, (Answer::Fault(cut), Answer::Fault(cut)));
     Ok(())
 }
 

@@ -132,14 +132,34 @@ fn shows_the_same<R: Abort + Threads + Sync>(
     Ok(())
 }
 
+// Lists a thousand units.
+fn lists_thousand_units<R: Abort + Threads + Sync>(rt: &R, alloc: Global) -> Result<(), Fail> {
+    let (bytes, lines) = thousand_units(alloc)?;
+    let left = done(rt, alloc, &["list"], bytes.as_slice())?;
+    assert_eq!(rt; left.out.taken(), lines.as_str().as_bytes());
+    Ok(())
+}
+
+// Encodes raw pictures without order, of that many bytes together, and compares sums of the stream and of what is shown.
+fn encodes<R: Abort + Threads + Sync>(
+    rt: &R,
+    alloc: Global,
+    words: &[&str],
+    length: usize,
+    sums: (u32, u32),
+) -> Result<(), Fail> {
+    let raw = noise(alloc, length)?;
+    let left = done(rt, alloc, words, raw.as_slice())?;
+    assert_eq!(rt; (sum_of(left.out.taken()), sum_of(left.side.taken())), sums);
+    shows_the_same(rt, alloc, &left)
+}
+
 // Raw pictures without order, of that many bytes together, encoded with settings: a sum of the stream, and of what is
 // shown, by the plain encoder in bench/reference.
 #[test]
 fn finds_memory_for_many_units_and_pictures(rt: HostRuntime) -> Result<(), Fail> {
     let alloc = rt.alloc();
-    let (bytes, lines) = thousand_units(alloc)?;
-    let left = done(&rt, alloc, &["list"], bytes.as_slice())?;
-    assert_eq!(rt; left.out.taken(), lines.as_str().as_bytes());
+    lists_thousand_units(&rt, alloc)?;
     for (first, second, third, fourth, length, sum, shown) in [
         (
             "--depth=1",
@@ -198,11 +218,7 @@ fn finds_memory_for_many_units_and_pictures(rt: HostRuntime) -> Result<(), Fail>
             third,
             fourth,
         ];
-        let raw = noise(alloc, length)?;
-        let left = done(&rt, alloc, &words, raw.as_slice())?;
-        assert_eq!(rt; sum_of(left.out.taken()), sum);
-        assert_eq!(rt; sum_of(left.side.taken()), shown);
-        shows_the_same(&rt, alloc, &left)?;
+        encodes(&rt, alloc, &words, length, (sum, shown))?;
     }
     Ok(())
 }

@@ -4,6 +4,9 @@ use dirac_common::{NoMemory, OpenGate};
 use dirac_decode::{Decoded, Tally};
 use dirac_io::{MemSink, MemSource};
 use dirac_pardec::decode_rows;
+use std::alloc::Global;
+use std::process::Abort;
+use std::thread::Threads;
 
 // A sequence header, a grey intra picture of 8 by 8 samples, 4:2:0, an inter picture like it, and an end unit.
 const STREAM: [u8; 95] = [
@@ -15,27 +18,39 @@ const STREAM: [u8; 95] = [
     0x80, 0x80, 0x42, 0x42, 0x43, 0x44, 0x10, 0x00, 0x00, 0x00, 0x00, 0x00, 0x00, 0x00, 0x20,
 ];
 
+// Decodes a stream by two workers, once with row 0 held in each call and once with row 1, and compares the tally, what
+// comes out, and in how many calls both rows came.
+fn shares<R: Abort + Threads + Sync>(
+    rt: &R,
+    alloc: Global,
+    stream: &[u8],
+    shown: &[u8],
+    pictures: u64,
+    calls: u64,
+) -> Result<(), NoMemory> {
+    for held in [0, 1] {
+        let gate = HoldsEachCall::new(held);
+        let bytes = Vec::from_slice(alloc, stream)?;
+        let mut source = MemSource::new(bytes, 4096, Vec::new(alloc));
+        let mut out = MemSink::new(alloc, 4096, Vec::new(alloc));
+        let ended = decode_rows(rt, alloc, &mut source, &mut out, 2, &gate);
+        let tally = Tally {
+            pictures,
+            references: 2,
+        };
+        assert_eq!(rt; ended, Decoded::Done(tally));
+        assert_eq!(rt; out.taken(), shown);
+        assert_eq!(rt; gate.calls(), Some(calls), "row {held} held");
+    }
+    Ok(())
+}
+
 // The first picture has its residual planes as rows; the second, without a residual, has three calls: the half samples
 // of its reference, what its slices are made of, and its slices.
 #[test]
 fn two_workers_share_the_rows_of_each_call(rt: HostRuntime) -> Result<(), NoMemory> {
     let alloc = rt.alloc();
-    for held in [0, 1] {
-        let gate = HoldsEachCall::new(held);
-        let bytes = Vec::from_slice(alloc, &STREAM)?;
-        let mut source = MemSource::new(bytes, 4096, Vec::new(alloc));
-        let mut out = MemSink::new(alloc, 4096, Vec::new(alloc));
-        let ended = decode_rows(&rt, alloc, &mut source, &mut out, 2, &gate);
-        let tally = Tally {
-            pictures: 2,
-            references: 2,
-        };
-        assert_eq!(rt; ended, Decoded::Done(tally));
-        assert_eq!(rt; out.taken().len(), 192);
-        assert!(rt; out.taken().iter().all(|byte| *byte == 0x80));
-        assert_eq!(rt; gate.calls(), Some(4), "row {held} held");
-    }
-    Ok(())
+    shares(&rt, alloc, &STREAM, &[0x80; 192], 2, 4)
 }
 
 // Each of two pictures that aren't small has three calls: the orientations of its subbands, what its slices are made
@@ -44,21 +59,7 @@ fn two_workers_share_the_rows_of_each_call(rt: HostRuntime) -> Result<(), NoMemo
 fn two_workers_share_the_subbands(rt: HostRuntime) -> Result<(), NoMemory> {
     let alloc = rt.alloc();
     let made = encoded(&rt, alloc, 320, 208, 1, &OpenGate)?;
-    for held in [0, 1] {
-        let gate = HoldsEachCall::new(held);
-        let bytes = Vec::from_slice(alloc, made.stream.taken())?;
-        let mut source = MemSource::new(bytes, 4096, Vec::new(alloc));
-        let mut out = MemSink::new(alloc, 4096, Vec::new(alloc));
-        let ended = decode_rows(&rt, alloc, &mut source, &mut out, 2, &gate);
-        let tally = Tally {
-            pictures: 2,
-            references: 2,
-        };
-        assert_eq!(rt; ended, Decoded::Done(tally));
-        assert_eq!(rt; out.taken(), made.shown.taken());
-        assert_eq!(rt; gate.calls(), Some(7), "row {held} held");
-    }
-    Ok(())
+    shares(&rt, alloc, made.stream.taken(), made.shown.taken(), 2, 7)
 }
 
 // Two intra pictures have one call: each is decoded whole by one of the workers.
@@ -68,21 +69,7 @@ fn two_workers_decode_a_picture_each(rt: HostRuntime) -> Result<(), NoMemory> {
     let mut settings = sized(320, 208);
     settings.gop = 1;
     let made = encoded_as(&rt, alloc, &settings, &OpenGate)?;
-    for held in [0, 1] {
-        let gate = HoldsEachCall::new(held);
-        let bytes = Vec::from_slice(alloc, made.stream.taken())?;
-        let mut source = MemSource::new(bytes, 4096, Vec::new(alloc));
-        let mut out = MemSink::new(alloc, 4096, Vec::new(alloc));
-        let ended = decode_rows(&rt, alloc, &mut source, &mut out, 2, &gate);
-        let tally = Tally {
-            pictures: 2,
-            references: 2,
-        };
-        assert_eq!(rt; ended, Decoded::Done(tally));
-        assert_eq!(rt; out.taken(), made.shown.taken());
-        assert_eq!(rt; gate.calls(), Some(1), "row {held} held");
-    }
-    Ok(())
+    shares(&rt, alloc, made.stream.taken(), made.shown.taken(), 2, 1)
 }
 
 // An intra picture has three calls, the picture behind it that refers to it four, with the half samples of the first.
@@ -93,19 +80,5 @@ fn two_workers_decode_what_refers_to_the_same_pictures(rt: HostRuntime) -> Resul
     let alloc = rt.alloc();
     let settings = sized(320, 208);
     let made = encoded_many(&rt, alloc, &settings, 4, &OpenGate)?;
-    for held in [0, 1] {
-        let gate = HoldsEachCall::new(held);
-        let bytes = Vec::from_slice(alloc, made.stream.taken())?;
-        let mut source = MemSource::new(bytes, 4096, Vec::new(alloc));
-        let mut out = MemSink::new(alloc, 4096, Vec::new(alloc));
-        let ended = decode_rows(&rt, alloc, &mut source, &mut out, 2, &gate);
-        let tally = Tally {
-            pictures: 4,
-            references: 2,
-        };
-        assert_eq!(rt; ended, Decoded::Done(tally));
-        assert_eq!(rt; out.taken(), made.shown.taken());
-        assert_eq!(rt; gate.calls(), Some(9), "row {held} held");
-    }
-    Ok(())
+    shares(&rt, alloc, made.stream.taken(), made.shown.taken(), 4, 9)
 }

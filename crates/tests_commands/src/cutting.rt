@@ -1,7 +1,11 @@
 use dirac_commands::{Ended, Words, ended_text, status};
 use std::alloc::Global;
+use std::process::Abort;
 use std::test::Fail;
-use tests_support::{Outside, STREAM, counts_its_fault, header, joined, pieces, tried, writes};
+use std::thread::Threads;
+use tests_support::{
+    Outside, STREAM, counts_its_fault, header, joined, pieces, tried, words_of, writes,
+};
 
 // Two intra pictures, and an inter picture behind them that refers to the first.
 fn two_points(alloc: Global) -> Result<Vec<u8>, Fail> {
@@ -65,32 +69,54 @@ fn cuts_at_points(rt: HostRuntime) -> Result<(), Fail> {
     Ok(())
 }
 
+// Runs words over STREAM whose read of this number fails: nothing is written.
+pub(crate) fn stops_at_a_read<R: Abort + Threads + Sync>(
+    rt: &R,
+    alloc: Global,
+    words: &Words,
+    call: u64,
+) -> Result<(), Fail> {
+    let outside = Outside {
+        read: 40,
+        reads: &[call],
+        ..pieces(40)
+    };
+    let left = tried(rt, alloc, words, &STREAM, &outside)?;
+    assert_eq!(rt; left.ended, Ended::ReadFault, "read {call}");
+    assert!(rt; left.out.taken().is_empty() && counts_its_fault(&left));
+    Ok(())
+}
+
+// Runs words over STREAM whose write of this number fails: that many of its bytes are written.
+pub(crate) fn stops_at_a_write<R: Abort + Threads + Sync>(
+    rt: &R,
+    alloc: Global,
+    words: &Words,
+    call: u64,
+    written: usize,
+) -> Result<(), Fail> {
+    let outside = Outside {
+        writes: &[call],
+        ..pieces(40)
+    };
+    let left = tried(rt, alloc, words, &STREAM, &outside)?;
+    assert_eq!(rt; left.ended, Ended::WriteFault, "write {call}");
+    assert!(rt; written <= STREAM.len() && counts_its_fault(&left));
+    assert_eq!(rt; left.out.taken(), &STREAM[..written]);
+    Ok(())
+}
+
 #[test]
 fn stops_at_a_call_that_fails(rt: HostRuntime) -> Result<(), Fail> {
     let alloc = rt.alloc();
-    let mut list = Words::new(alloc);
-    list.push("cut")?;
+    let words = words_of(alloc, &["cut"])?;
     // the first read that fails, before anything is written
     for call in [0, 1, 2, 3] {
-        let outside = Outside {
-            read: 40,
-            reads: &[call],
-            ..pieces(40)
-        };
-        let left = tried(&rt, alloc, &list, &STREAM, &outside)?;
-        assert_eq!(rt; left.ended, Ended::ReadFault, "read {call}");
-        assert!(rt; left.out.taken().is_empty() && counts_its_fault(&left));
+        stops_at_a_read(&rt, alloc, &words, call)?;
     }
     // the first write that fails, behind each header and each payload
     for (call, written) in [(0, 0), (1, 13), (2, 19), (3, 32), (4, 50), (5, 63), (6, 82)] {
-        let outside = Outside {
-            writes: &[call],
-            ..pieces(40)
-        };
-        let left = tried(&rt, alloc, &list, &STREAM, &outside)?;
-        assert_eq!(rt; left.ended, Ended::WriteFault, "write {call}");
-        assert!(rt; written <= STREAM.len() && counts_its_fault(&left));
-        assert_eq!(rt; left.out.taken(), &STREAM[..written]);
+        stops_at_a_write(&rt, alloc, &words, call, written)?;
     }
     Ok(())
 }

@@ -6,6 +6,7 @@ use crate::gates::{FIRST, HoldsRows, SECOND, THIRD};
 use dirac_common::{NoMemory, OpenGate, RowGate};
 use dirac_rows::{RowClaims, RowSeat, map_rows, split_rows};
 use std::alloc::Global;
+use std::process::Abort;
 use std::sync::Wait;
 use std::sync::atomic::AtomicU64;
 use std::sync::atomic::Ordering::SeqCst;
@@ -87,8 +88,7 @@ fn two_threads_claim_a_row_each(rt: HostRuntime) -> Result<(), NoMemory> {
     assert!(rt; gate.all_came());
     let rows = (ours.0, theirs.0);
     assert!(rt; rows == (Some(0), Some(1)) || rows == (Some(1), Some(0)));
-    assert_eq!(rt; ours.1, None);
-    assert_eq!(rt; theirs.1, None);
+    assert_eq!(rt; (ours.1, theirs.1), (None, None));
     Ok(())
 }
 
@@ -138,6 +138,30 @@ fn gates_are_passed_before_the_work(rt: HostRuntime) -> Result<(), NoMemory> {
     Ok(())
 }
 
+// Where there are no rows, none is claimed.
+fn claims_none<R: Abort>(rt: &R, alloc: Global) -> Result<(), NoMemory> {
+    let (none, mut seat) = RowClaims::try_new(alloc, 0, 1)?;
+    assert_eq!(rt; none.claim(&mut seat), None);
+    Ok(())
+}
+
+// One seat claims all of three rows, and then none, again and again.
+fn claims_three<R: Abort>(rt: &R, alloc: Global) -> Result<(), NoMemory> {
+    let (claims, mut seat) = RowClaims::try_new(alloc, 3, 1)?;
+    let rows = [
+        claims.claim(&mut seat),
+        claims.claim(&mut seat),
+        claims.claim(&mut seat),
+        claims.claim(&mut seat),
+    ];
+    assert_eq!(rt; rows, [Some(0), Some(1), Some(2), None]);
+    let None = claims.claim(&mut seat) else {
+        return Err(NoMemory);
+    };
+    assert_eq!(rt; claims.finish(seat).rows, 3);
+    Ok(())
+}
+
 #[test]
 fn rows_are_claimed_once(rt: HostRuntime) -> Result<(), NoMemory> {
     let alloc = rt.alloc();
@@ -149,19 +173,13 @@ fn rows_are_claimed_once(rt: HostRuntime) -> Result<(), NoMemory> {
         );
     }
     assert_eq!(rt; hundreds(&rt, alloc, 0, 2, &OpenGate)?.len(), 0);
-    let (none, mut seat) = RowClaims::try_new(alloc, 0, 1)?;
-    assert_eq!(rt; none.claim(&mut seat), None);
-    let (claims, mut seat) = RowClaims::try_new(alloc, 3, 1)?;
-    assert_eq!(rt; claims.claim(&mut seat), Some(0));
-    assert_eq!(rt; claims.claim(&mut seat), Some(1));
-    assert_eq!(rt; claims.claim(&mut seat), Some(2));
-    assert_eq!(rt; claims.claim(&mut seat), None);
-    let None = claims.claim(&mut seat) else {
-        return Err(NoMemory);
-    };
-    assert_eq!(rt; claims.finish(seat).rows, 3);
-    assert_eq!(rt; split_rows(10, 3, 0), (0, 3));
-    assert_eq!(rt; split_rows(10, 3, 1), (3, 6));
-    assert_eq!(rt; split_rows(10, 3, 2), (6, 10));
+    claims_none(&rt, alloc)?;
+    claims_three(&rt, alloc)?;
+    let parts = [
+        split_rows(10, 3, 0),
+        split_rows(10, 3, 1),
+        split_rows(10, 3, 2),
+    ];
+    assert_eq!(rt; parts, [(0, 3), (3, 6), (6, 10)]);
     Ok(())
 }

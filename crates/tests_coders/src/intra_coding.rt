@@ -17,6 +17,18 @@ fn settings_of(width: u32, height: u32) -> Settings {
     settings
 }
 
+/// Codes a raw picture, and compares the payload.
+fn codes<R: Abort + Threads + Sync>(
+    rt: &R,
+    alloc: Global,
+    settings: &Settings,
+    raw: &[u8],
+    payload: &[u8],
+) -> Result<(), NoMemory> {
+    assert!(rt; coded(rt, alloc, settings, raw)?.payload.as_slice() == payload);
+    Ok(())
+}
+
 /// A raw picture, coded.
 fn coded<R: Abort + Threads + Sync>(
     rt: &R,
@@ -32,32 +44,30 @@ fn coded<R: Abort + Threads + Sync>(
     code_picture(rt, alloc, &planned, &source, &refs, settings, &OpenGate)
 }
 
-/// The sequence header's payload.
-fn header<R: Abort>(rt: &R, alloc: Global, settings: &Settings) -> Result<Vec<u8>, NoMemory> {
+/// Writes the sequence header of settings, and compares its payload.
+fn opens<R: Abort>(
+    rt: &R,
+    alloc: Global,
+    settings: &Settings,
+    payload: &[u8],
+) -> Result<(), NoMemory> {
     assert!(rt; settings.check().is_ok());
-    write_sequence(alloc, settings)
+    assert!(rt; write_sequence(alloc, settings)?.as_slice() == payload);
+    Ok(())
 }
 
 #[test]
 fn grey_of_eight(rt: HostRuntime) -> Result<(), NoMemory> {
     let alloc = rt.alloc();
     let settings = settings_of(8, 8);
-    let written = header(&rt, alloc, &settings)?;
-    assert!(rt; written.as_slice() == [0x6Fu8, 0xC1, 0x83, 0x08, 0x30, 0x79].as_slice());
-    let base = header(&rt, alloc, &Settings::of_base(8))?;
-    assert!(rt; base.as_slice() == [0x6Fu8, 0x06, 0x05, 0xA0].as_slice());
+    opens(&rt, alloc, &settings, &[0x6F, 0xC1, 0x83, 0x08, 0x30, 0x79])?;
+    opens(&rt, alloc, &Settings::of_base(8), &[0x6F, 0x06, 0x05, 0xA0])?;
     let grey = [0x80u8; 96];
     let wanted = [
         0u8, 0, 0, 0, 0x80, 0x90, 0x80, 0x80, 0x80, 0x80, 0x80, 0x80, 0x80, 0x80, 0x80, 0x80, 0x80,
         0x80,
     ];
-    assert!(rt;
-        coded(&rt, alloc, &settings, grey.as_slice())?
-            .payload
-            .as_slice()
-            == wanted.as_slice()
-    );
-    Ok(())
+    codes(&rt, alloc, &settings, &grey, &wanted)
 }
 
 #[test]
@@ -67,8 +77,7 @@ fn haar_of_two(rt: HostRuntime) -> Result<(), NoMemory> {
     settings.chroma = 0;
     settings.wavelet = 3;
     settings.index = 0;
-    let written = header(&rt, alloc, &settings)?;
-    assert!(rt; written.as_slice() == [0x6Fu8, 0xDB, 0xC5, 0xBC, 0x80].as_slice());
+    opens(&rt, alloc, &settings, &[0x6F, 0xDB, 0xC5, 0xBC, 0x80])?;
     let raw = [
         0x81u8, 0x81, 0x81, 0x81, 0x80, 0x80, 0x80, 0x80, 0x80, 0x80, 0x80, 0x80,
     ];
@@ -76,11 +85,5 @@ fn haar_of_two(rt: HostRuntime) -> Result<(), NoMemory> {
         0u8, 0, 0, 0, 0x80, 0x09, 0x00, 0x30, 0x2E, 0x80, 0x80, 0x80, 0x80, 0x80, 0x80, 0x80, 0x80,
         0x80, 0x80, 0x80,
     ];
-    assert!(rt;
-        coded(&rt, alloc, &settings, raw.as_slice())?
-            .payload
-            .as_slice()
-            == wanted.as_slice()
-    );
-    Ok(())
+    codes(&rt, alloc, &settings, &raw, &wanted)
 }

@@ -1,5 +1,0 @@
-//! Streams sent in pieces, and planes copied at a stride.
-#![tactic(auto)]
-
-#[cfg(test)]
-mod pieces;
