@@ -2,6 +2,7 @@ use dirac_commands::Ended;
 use dirac_common::Cause;
 use std::alloc::Global;
 use std::test::Fail;
+use std::thread::Threads;
 use tests_support::{SMALL, STREAM, faulty, header, joined, shows};
 
 // The picture of 8 by 8 samples, 4:2:0, that all pictures here are, as bytes.
@@ -55,24 +56,30 @@ fn grey_pictures(alloc: Global, count: usize) -> Result<Vec<u8>, Fail> {
     Ok(raw)
 }
 
+// Decodes the stream of these pieces, and compares the answer, that many grey pictures, and the tally.
+fn shows_grey<R: Threads + Sync>(
+    rt: &R,
+    alloc: Global,
+    pieces: &[&[u8]],
+    answer: Ended,
+    count: usize,
+    line: &str,
+) -> Result<(), Fail> {
+    let bytes = joined(alloc, pieces)?;
+    let raw = grey_pictures(alloc, count)?;
+    shows(rt, alloc, &bytes, answer, &raw, line)
+}
+
 #[test]
 fn decodes_inter_pictures(rt: HostRuntime) -> Result<(), Fail> {
     let alloc = rt.alloc();
-    let two = grey_pictures(alloc, 2)?;
     let both = "pictures=2 references=2\n";
-    shows(&rt, alloc, &STREAM, Ended::Done, two.as_slice(), both)?;
+    shows_grey(&rt, alloc, &[&STREAM], Ended::Done, 2, both)?;
 
     // the same pictures, as the two fields of a frame of 8 by 16
     let fields = [0x6Fu8, 0xC1, 0x80, 0xC2, 0x0C, 0x07, 0x84];
-    let bytes = joined(alloc, &[&header(0x00, 20, 0), &fields, &STREAM[19..]])?;
-    shows(
-        &rt,
-        alloc,
-        bytes.as_slice(),
-        Ended::Done,
-        two.as_slice(),
-        both,
-    )
+    let pieces: [&[u8]; 3] = [&header(0x00, 20, 0), &fields, &STREAM[19..]];
+    shows_grey(&rt, alloc, &pieces, Ended::Done, 2, both)
 }
 
 #[test]
@@ -81,77 +88,84 @@ fn looks_references_up_before_anything_changes(rt: HostRuntime) -> Result<(), Fa
     // a picture that retires what it refers to decodes; the next can't refer to that
     let first = inter(alloc, 32, 1, &[0x33])?;
     let second = inter(alloc, 32, 2, &[0x78])?;
-    let bytes = joined(alloc, &[&STREAM[..50], &first, &second])?;
+    let pieces: [&[u8]; 3] = [&STREAM[..50], &first, &second];
     let missing = faulty(3, 95, Cause::MissingReference);
-    let two = grey_pictures(alloc, 2)?;
-    let line = "pictures=2 references=1\n";
-    shows(&rt, alloc, bytes.as_slice(), missing, two.as_slice(), line)
+    shows_grey(&rt, alloc, &pieces, missing, 2, "pictures=2 references=1\n")
+}
+
+// The same behind an intra picture and one that refers to it.
+fn shows_between<R: Threads + Sync>(
+    rt: &R,
+    alloc: Global,
+    pieces: &[&[u8]],
+    answer: Ended,
+    count: usize,
+    line: &str,
+) -> Result<(), Fail> {
+    let first = between(alloc, 32, 1, 0x30)?;
+    let rest = joined(alloc, pieces)?;
+    shows_grey(
+        rt,
+        alloc,
+        &[&STREAM[..50], &first, &rest],
+        answer,
+        count,
+        line,
+    )
 }
 
 #[test]
 fn decodes_what_refers_to_the_same_pictures(rt: HostRuntime) -> Result<(), Fail> {
     let alloc = rt.alloc();
     // both refer to picture 0; then the second one to picture 1, which isn't listed; then its payload ends too early
-    let first = between(alloc, 32, 1, 0x30)?;
+    let end = header(0x10, 0, 32);
     let second = between(alloc, 32, 2, 0x70)?;
-    let start = joined(alloc, &[&STREAM[..50], &first])?;
-    let bytes = joined(alloc, &[&start, &second, &header(0x10, 0, 32)])?;
-    let three = grey_pictures(alloc, 3)?;
     let line = "pictures=3 references=1\n";
-    shows(&rt, alloc, &bytes, Ended::Done, three.as_slice(), line)?;
+    shows_between(&rt, alloc, &[&second, &end], Ended::Done, 3, line)?;
 
     // an intra picture that no other one refers to stands between them
-    let intra = joined(
-        alloc,
-        &[&header(0x08, 30, 0), &[0, 0, 0, 2, 0x90], &[0x80; 12]],
-    )?;
     let second = between(alloc, 32, 3, 0x0C)?;
-    let bytes = joined(alloc, &[&start, &intra, &second, &header(0x10, 0, 32)])?;
-    let four = grey_pictures(alloc, 4)?;
+    let info = header(0x08, 30, 0);
+    let pieces: [&[u8]; 5] = [&info, &[0, 0, 0, 2, 0x90], &[0x80; 12], &second, &end];
     let line = "pictures=4 references=1\n";
-    shows(&rt, alloc, &bytes, Ended::Done, four.as_slice(), line)?;
+    shows_between(&rt, alloc, &pieces, Ended::Done, 4, line)?;
 
-    let two = grey_pictures(alloc, 2)?;
     let line = "pictures=2 references=1\n";
     let second = between(alloc, 32, 2, 0x30)?;
-    let bytes = joined(alloc, &[&start, &second, &header(0x10, 0, 32)])?;
     let missing = faulty(3, 95, Cause::MissingReference);
-    shows(&rt, alloc, &bytes, missing, two.as_slice(), line)?;
+    shows_between(&rt, alloc, &[&second, &end], missing, 2, line)?;
 
-    let second = joined(alloc, &[&header(0x09, 18, 32), &[0, 0, 0, 2, 0x70]])?;
-    let bytes = joined(alloc, &[&start, &second, &header(0x10, 0, 18)])?;
+    let info = header(0x09, 18, 32);
+    let end = header(0x10, 0, 18);
+    let pieces: [&[u8]; 3] = [&info, &[0, 0, 0, 2, 0x70], &end];
     let short = faulty(3, 100, Cause::UnitShort);
-    shows(&rt, alloc, &bytes, short, two.as_slice(), line)
+    shows_between(&rt, alloc, &pieces, short, 2, line)
+}
+
+// The sequence header and nine grey intra pictures, numbered from 0.
+fn nine_pictures(alloc: Global) -> Result<Vec<u8>, Fail> {
+    let mut bytes = Vec::from_slice(alloc, &STREAM[..19])?;
+    for number in 0..9 {
+        let picture = intra(alloc, number)?;
+        bytes.extend_from_slice(picture.as_slice())?;
+    }
+    Ok(bytes)
 }
 
 #[test]
 fn lists_eight_references(rt: HostRuntime) -> Result<(), Fail> {
     let alloc = rt.alloc();
-    let mut start = Vec::from_slice(alloc, &STREAM[..19])?;
-    for number in 0..9 {
-        let picture = intra(alloc, number)?;
-        start.extend_from_slice(picture.as_slice())?;
-    }
+    let start = nine_pictures(alloc)?;
     // picture 0 has left the list, and picture 1 not yet
     let last = inter(alloc, 33, 9, &[0x13, 0x80])?;
-    let first = joined(alloc, &[&start, &last])?;
     let missing = faulty(10, 311, Cause::MissingReference);
-    let nine = grey_pictures(alloc, 9)?;
     let line = "pictures=9 references=8\n";
-    shows(&rt, alloc, first.as_slice(), missing, nine.as_slice(), line)?;
+    shows_grey(&rt, alloc, &[&start, &last], missing, 9, line)?;
 
     let last = inter(alloc, 33, 9, &[0x07, 0x80])?;
-    let second = joined(alloc, &[&start, &last, &header(0x10, 0, 33)])?;
-    let ten = grey_pictures(alloc, 10)?;
+    let pieces: [&[u8]; 3] = [&start, &last, &header(0x10, 0, 33)];
     let line = "pictures=10 references=8\n";
-    shows(
-        &rt,
-        alloc,
-        second.as_slice(),
-        Ended::Done,
-        ten.as_slice(),
-        line,
-    )
+    shows_grey(&rt, alloc, &pieces, Ended::Done, 10, line)
 }
 
 // The unit of an intra picture of 2 by 2 samples of this number: one bit brighter than grey in luma, or grey.
@@ -170,32 +184,31 @@ fn square(alloc: Global, number: u8, bright: bool) -> Result<Vec<u8>, Fail> {
     }
 }
 
+// The sequence header and five such pictures, the second of which, number 4, is the bright one.
+fn five_squares(alloc: Global) -> Result<Vec<u8>, Fail> {
+    let mut bytes = Vec::from_slice(alloc, &SMALL[..18])?;
+    for number in [0u8, 4, 1, 2, 3] {
+        let picture = square(alloc, number, number == 4)?;
+        bytes.extend_from_slice(picture.as_slice())?;
+    }
+    Ok(bytes)
+}
+
 #[test]
 fn delivers_by_number(rt: HostRuntime) -> Result<(), Fail> {
     let alloc = rt.alloc();
     let bright = [
         0x81u8, 0x81, 0x81, 0x81, 0x80, 0x80, 0x80, 0x80, 0x80, 0x80, 0x80, 0x80,
     ];
-    let mut start = Vec::from_slice(alloc, &SMALL[..18])?;
-    for number in [0u8, 4, 1, 2, 3] {
-        let picture = square(alloc, number, number == 4)?;
-        start.extend_from_slice(picture.as_slice())?;
-    }
+    let start = five_squares(alloc)?;
     let before = joined(alloc, &[&[0x80; 48], &bright])?;
     let open = faulty(6, 179, Cause::MissingEnd);
     let line = "pictures=5 references=5\n";
-    shows(&rt, alloc, start.as_slice(), open, before.as_slice(), line)?;
+    shows(&rt, alloc, &start, open, &before, line)?;
 
     let last = square(alloc, 8, false)?;
     let whole = joined(alloc, &[&start, &last, &header(0x10, 0, 32)])?;
     let all = joined(alloc, &[&before, &[0x80; 12]])?;
     let line = "pictures=6 references=6\n";
-    shows(
-        &rt,
-        alloc,
-        whole.as_slice(),
-        Ended::Done,
-        all.as_slice(),
-        line,
-    )
+    shows(&rt, alloc, &whole, Ended::Done, &all, line)
 }
