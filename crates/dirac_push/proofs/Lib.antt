@@ -1,3 +1,4 @@
 pub mod Passing
 pub mod Laying
 pub mod Taking
+pub mod Examples

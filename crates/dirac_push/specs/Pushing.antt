@@ -12,6 +12,7 @@ use Rattle.dirac_units.specs.Cut.{UnitText, after, front_of}
 use Rattle.dirac_units.specs.Info.{span_of}
 use Rattle.dirac_content.specs.declared.opened.Opened.{Opened}
 use Rattle.dirac_decode.specs.Decoding.{ComesBehind, Decoding, decoder_begun}
+use Rattle.dirac_content.specs.Leaving.{leaving}
 use Rattle.dirac_content.specs.Shown.{IsShown}
 use Rattle.dirac_decode.specs.Stepping.{FaultsAt, IsAtFront, IsFurther, IsWholeUnit, opened_sequence}
 use Rattle.dirac_content.specs.StreamState.{StreamState, StreamStep, unit_step}
@@ -117,16 +118,18 @@ AreTaken unit_place state bytes (unit ∷ units) unit_place' state' rest =
     (m : StreamStep) × IsAtFront unit unit_place bytes × (unit_step state unit.info.code unit.payload ≡ Ok m)
     × AreTaken (after unit_place unit.info) m.state (drop (span_of unit.info) bytes) units unit_place' state' rest
 
--- what was met behind the units that were taken: nothing yet, or that end or fault stands there
+-- what was met behind the units that were taken: nothing yet, or that end or fault stands there; or memory was wanting,
+-- and the course is what they brought
 abbrev pub MeetsBehind : StreamEnd → Pushed → UnitPlace → StreamState → List ℕ → Type 0
 MeetsBehind stream_end.Going new unit_place state rest =
     (unit_place ≡ new.decoder.units.unit_place) × (state ≡ new.decoder.state) × (rest ≡ new.there)
 MeetsBehind stream_end.Ended new unit_place state rest = front_of unit_place rest ≡ Err None
 MeetsBehind (stream_end.Faulted fault) new unit_place state rest = FaultsAt unit_place state fault rest
-MeetsBehind stream_end.Stopped new unit_place state rest = ⊤
+MeetsBehind stream_end.Stopped new unit_place state rest = state ≡ new.decoder.state
 
 -- a call took just these units of the bytes there, none once something was met, and the format is that of the sequence
--- opened last among them
+-- opened last among them; where it took one no picture was due, and none left with a unit before the last; where it met
+-- the end, a fault or want of memory none was due and none left at all
 pub record TakesUnits (old new : Pushed) : Type 0 where
   pub units : List UnitText
   pub unit_place : UnitPlace
@@ -137,6 +140,17 @@ pub record TakesUnits (old new : Pushed) : Type 0 where
   pub met : old.decoder.stream_end ≡ stream_end.Going → MeetsBehind new.decoder.stream_end new unit_place state rest
   pub still : (old.decoder.stream_end ≡ stream_end.Going → ⊥)
       → (units ≡ []) × (new.decoder.stream_end ≡ old.decoder.stream_end)
+  pub up_to : (front : List UnitText) (last : UnitText) → units ≡ front ++ last ∷ []
+      → old.decoder.due ++ leaving old.decoder.state front ≡ []
+  pub none_left : old.decoder.stream_end ≡ stream_end.Going → (new.decoder.stream_end ≡ stream_end.Going → ⊥)
+      → old.decoder.due ++ leaving old.decoder.state units ≡ []
+
+-- a call took units and gave no picture: while units go on, those due before and those that left are due
+-- Inner: for the proofs of this crate.
+pub record TakesSilently (old new : Pushed) : Type 0 where
+  pub takes : TakesUnits old new
+  pub due : new.decoder.stream_end ≡ stream_end.Going
+      → old.decoder.due ++ leaving old.decoder.state takes.units ≡ new.decoder.due
 
 -- what one turn says: at `None` a unit was taken that showed nothing, or the end or a fault was met
 abbrev pub TurnGives : Option Answer → Pushed → Pushed → Type 0

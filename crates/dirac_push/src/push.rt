@@ -4,7 +4,7 @@ ghost use Rattle.std.specs.Prelude.{option_map};
 ghost use Rattle.std.specs.Borrow.{Bor};
 ghost use Rattle.dirac_decode.specs.Stepping.{IsWholeUnit};
 ghost use Rattle.dirac_push.specs.Pushing.{push_begun, IsFormat, PushPasses, PushGives, RepeatsAnswer, TakesUnits};
-ghost use Rattle.dirac_push.specs.Pushing.{TurnGives};
+ghost use Rattle.dirac_push.specs.Pushing.{TakesSilently, TurnGives};
 ghost use Rattle.dirac_push.specs.Pushing as pushing;
 
 use crate::answer::{Answer, Unsent};
@@ -120,7 +120,8 @@ impl PushDecoder {
     /// each later call answers `Stopped`; none of them takes a byte.
     pub fn next(&mut self) -> Answer
         ensures gives { PushGives result self.old self.new }
-        // Which units were taken, and that the format is that of the sequence opened last among them.
+        // Which units were taken, that no picture could be given before the last of them, and that the format is that of
+        // the sequence opened last among them.
         ensures takes { TakesUnits self.old self.new }
         ensures repeats { RepeatsAnswer result self.old self.new }
         ensures finished_stays { self.new.is_finished ≡ self.old.is_finished }
@@ -145,6 +146,7 @@ impl PushDecoder {
         requires none_shown { self.old.shown ≡ None }
         ensures gives { TurnGives result self.old self.new }
         ensures takes { TakesUnits self.old self.new }
+        ensures silent { result ≡ None → TakesSilently self.old self.new }
         ensures repeats { IfSome result (λ answer. RepeatsAnswer answer self.old self.new) }
         ensures fits { self.new.decoder.units.unit_place.at < 2 ^ 63 }
         ensures finished_stays { self.new.is_finished ≡ self.old.is_finished }
@@ -178,6 +180,7 @@ impl PushDecoder {
         requires none_shown { self.old.shown ≡ None }
         ensures gives { TurnGives result self.old self.new }
         ensures takes { TakesUnits self.old self.new }
+        ensures silent { result ≡ None → TakesSilently self.old self.new }
         ensures fits { self.new.decoder.units.unit_place.at < 2 ^ 63 }
         ensures finished_stays { self.new.is_finished ≡ self.old.is_finished }
         ensures room_stays { self.new.room ≡ self.old.room }

@@ -57,9 +57,9 @@ frame_told (answers.Fault fault) shown = fault_frame fault
 frame_told answers.NoMemory shown = empty_frame
 frame_told answers.Stopped shown = empty_frame
 
--- a number and a frame tell an answer that the decoder gave; the end, a fault and a stop are told again; the format
--- is that of the sequence opened last among the units taken; whether the stream was finished stays, and how many bytes
--- may still be sent
+-- a number and a frame tell an answer that the decoder gave; the end, a fault and a stop are told again; no unit was
+-- taken while a picture could be given, and the format is that of the sequence opened last among those taken; whether
+-- the stream was finished stays, and how many bytes may still be sent
 abbrev pub TellsNext : ℤ → Frame → Pushed → Pushed → Type 0
 TellsNext code frame old new =
     (answer : Answer) × (code ≡ number_of_answer answer) × (frame ≡ frame_told answer new.shown)

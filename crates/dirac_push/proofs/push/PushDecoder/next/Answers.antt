@@ -1,7 +1,7 @@
 use Rattle.std.proofs.Common.{◌∙◌, ap, arith, refl, subst, [], None}
-use Rattle.dirac_push.specs.Pushing.{PushPasses, Pushed, TakesUnits, TurnGives}
+use Rattle.dirac_push.specs.Pushing.{PushPasses, Pushed, TakesSilently, TakesUnits, TurnGives}
 use Rattle.dirac_push.proofs.Passing.{gives_behind, passes_on, passes_same, repeats_behind, still_going}
-use Rattle.dirac_push.proofs.Taking.{takes_on, takes_same}
+use Rattle.dirac_push.proofs.Taking.{silent_on, silent_same, takes_on}
 use Rattle.dirac_push.proofs.push.PushDecoder.next.Goals as goal
 
 pub units-init : goal.units-init
@@ -10,7 +10,7 @@ units-init c =
     let new : Pushed = record old { shown = None } in
     record {
       passes = subst (λ (x : Pushed). PushPasses x new [] []) c.self.view_is (passes_same old new refl refl (λ e. e));
-      takes = subst (λ (x : Pushed). TakesUnits x new) c.self.view_is (takes_same old new refl refl refl refl refl);
+      silent = subst (λ (x : Pushed). TakesSilently x new) c.self.view_is (silent_same old new refl refl refl refl refl refl);
       given = ap (λ (x : Pushed). x.decoder.given) c.self.view_is;
       shown = refl;
       moving = λ e. c.in_default.not-Stopped (c.stream_end.ensures ∙ e);
@@ -25,7 +25,7 @@ units-preserved c =
     let gives : TurnGives None c.units.self c.turn.new.self = c.in_default-turn.ensures.gives in
     record {
       passes = passes_on c.args.self.now c.units.self c.turn.new.self [] [] [] [] c.units.invariant.passes gives.0;
-      takes = takes_on c.args.self.now c.units.self c.turn.new.self c.units.invariant.takes c.in_default-turn.ensures.takes;
+      silent = silent_on c.args.self.now c.units.self c.turn.new.self c.units.invariant.moving c.units.invariant.silent (c.in_default-turn.ensures.silent refl);
       given = gives.1 ∙ c.units.invariant.given;
       shown = gives.2;
       moving = gives.4;
@@ -39,12 +39,12 @@ pub returns-in-Stopped-clause-takes : goal.returns-in-Stopped-clause-takes
 returns-in-Stopped-clause-takes c =
     let old : Pushed = record { decoder = c.self.inside.decoder; there = c.self.inside.queue; room = c.self.inside.room; is_finished = c.self.inside.is_finished; shown = c.self.inside.shown; format = c.self.inside.format } in
     let new : Pushed = record old { shown = None } in
-    subst (λ (x : Pushed). TakesUnits x new) c.self.view_is (takes_same old new refl refl refl refl refl)
+    subst (λ (x : Pushed). TakesUnits x new) c.self.view_is (silent_same old new refl refl refl refl refl refl).takes
 
 pub returns-in-Some : goal.returns-in-Some
 returns-in-Some c = record {
   gives = gives_behind c.in-Some.answer c.args.self.now c.units.self c.turn.new.self c.units.invariant.passes c.units.invariant.given c.units.invariant.moving c.in-Some.ensures.gives;
-  takes = takes_on c.args.self.now c.units.self c.turn.new.self c.units.invariant.takes c.in-Some.ensures.takes;
+  takes = takes_on c.args.self.now c.units.self c.turn.new.self c.units.invariant.moving c.units.invariant.silent c.in-Some.ensures.takes;
   repeats = repeats_behind c.in-Some.answer c.args.self.now c.units.self c.turn.new.self c.units.invariant.still c.in-Some.ensures.repeats;
   finished_stays = c.in-Some.ensures.finished_stays ∙ c.units.invariant.finished;
   room_stays = c.in-Some.ensures.room_stays ∙ c.units.invariant.room;

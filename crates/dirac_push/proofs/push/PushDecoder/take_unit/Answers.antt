@@ -3,9 +3,9 @@ use Rattle.dirac_units.specs.declared.unit.StreamEnd.TheVariants as stream_end
 use Rattle.dirac_decode.specs.declared.answers.Next.{Next}
 use Rattle.dirac_decode.specs.Stepping.{IsThere, IsWholeUnit, StepGives, StepGivesBefore}
 use Rattle.dirac_push.specs.declared.answer.Answer.TheVariants as answers
-use Rattle.dirac_push.specs.Pushing.{Pushed, TakesUnits, TurnGives, latest}
+use Rattle.dirac_push.specs.Pushing.{Pushed, TakesSilently, TakesUnits, TurnGives, latest}
 use Rattle.dirac_push.proofs.Passing.{turn_end, turn_fault, turn_none, turn_shown}
-use Rattle.dirac_push.proofs.Taking.{takes_one}
+use Rattle.dirac_push.proofs.Taking.{silent_one, takes_one}
 use Rattle.dirac_push.proofs.push.PushDecoder.take_unit.Goals as goal
 
 pub returns-in-None-clause-gives : goal.returns-in-None-clause-gives
@@ -49,6 +49,16 @@ returns-in-None-clause-takes c =
     let none_due = subst (λ (x : Pushed). x.decoder.due ≡ []) (sym c.self.view_is) c.requires.none_due in
     subst (λ (x : Pushed). TakesUnits x new) c.self.view_is
     (takes_one _ old new going none_due c.self.invariant.0 (c.in-None.ensures.none_ahead c.self.invariant.0) c.self.invariant.2
+    (c.latest-self-inside.ensures ∙ ap (λ o. latest o c.self.inside.format) c.sequence.ensures) c.in-None.ensures.at_most_one_unit)
+
+pub returns-in-None-clause-silent : goal.returns-in-None-clause-silent
+returns-in-None-clause-silent c none =
+    let old : Pushed = record { decoder = c.self.inside.decoder; there = c.self.inside.queue; room = c.self.inside.room; is_finished = c.self.inside.is_finished; shown = c.self.inside.shown; format = c.self.inside.format } in
+    let new : Pushed = record { decoder = c.step-step.new.self; there = c.step-step.new.source; room = c.self.inside.room; is_finished = c.self.inside.is_finished; shown = c.self.inside.shown; format = c.latest-self-inside.result } in
+    let going = subst (λ (x : Pushed). x.decoder.stream_end ≡ stream_end.Going) (sym c.self.view_is) c.requires.going in
+    let none_due = subst (λ (x : Pushed). x.decoder.due ≡ []) (sym c.self.view_is) c.requires.none_due in
+    subst (λ (x : Pushed). TakesSilently x new) c.self.view_is
+    (silent_one old new going none_due c.self.invariant.0 (c.in-None.ensures.none_ahead c.self.invariant.0) c.self.invariant.2
     (c.latest-self-inside.ensures ∙ ap (λ o. latest o c.self.inside.format) c.sequence.ensures) c.in-None.ensures.at_most_one_unit)
 
 pub returns-in-Some-Shown-clause-takes : goal.returns-in-Some-Shown-clause-takes
