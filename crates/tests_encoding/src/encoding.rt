@@ -22,89 +22,89 @@ pub(crate) fn encode_words(alloc: Global, first: &[&str], more: &[&str]) -> Resu
     Ok(words)
 }
 
+// Encodes the front of so many bytes of the grey pictures, and compares the answer, the stream, and the front that is
+// shown.
+fn encodes_grey<R: Abort + Threads + Sync>(
+    rt: &R,
+    alloc: Global,
+    more: &str,
+    raw: usize,
+    answer: Ended,
+    stream: &[u8],
+    shown: usize,
+) -> Result<(), Fail> {
+    let words = encode_words(alloc, &SIZES, &[more])?;
+    let raw = &GREY[..raw.min(GREY.len())];
+    let shown = &GREY[..shown.min(GREY.len())];
+    leaves(rt, alloc, &words, raw, answer, stream, shown)
+}
+
+// The second picture refers to the first one, and its unit has 32 bytes.
 #[test]
 fn encodes_grey_pictures(rt: HostRuntime) -> Result<(), Fail> {
     let alloc = rt.alloc();
-    let end = header(0x10, 0, 31);
-    let one = joined(alloc, &[&STREAM[..50], &end])?;
-    let next = header(0x00, 19, 31);
-    let number = [0, 0, 0, 1];
+    for (more, raw, answer, stream, shown) in [
+        (PLAIN, 192, Ended::Done, 95, 192),
+        ("--workers=2", 192, Ended::Done, 95, 192),
+        ("--workers=5", 192, Ended::Done, 95, 192),
+        (PLAIN, 196, Ended::PartialPicture(4), 95, 192),
+        ("--pictures=2", 192, Ended::Done, 95, 192),
+        ("--unit_bytes=31", 192, Ended::UnitTooLong(1), 50, 0),
+        ("--unit_bytes=30", 192, Ended::UnitTooLong(0), 19, 0),
+    ] {
+        encodes_grey(&rt, alloc, more, raw, answer, &STREAM[..stream], shown)?;
+    }
+    Ok(())
+}
+
+// Where there is no whole picture, an end unit follows the sequence header.
+#[test]
+fn encodes_no_whole_picture(rt: HostRuntime) -> Result<(), Fail> {
+    let alloc = rt.alloc();
+    let none = joined(alloc, &[&STREAM[..19], &header(0x10, 0, 19)])?;
+    for (more, raw, answer) in [
+        (PLAIN, 0, Ended::Done),
+        (PLAIN, 1, Ended::PartialPicture(1)),
+        (PLAIN, 95, Ended::PartialPicture(95)),
+        ("--unit_bytes=30", 95, Ended::PartialPicture(95)),
+    ] {
+        encodes_grey(&rt, alloc, more, raw, answer, &none, 0)?;
+    }
+    let words = encode_words(alloc, &["--width=8", "--height=8"], &[])?;
+    leaves(&rt, alloc, &words, &[], Ended::Done, &none, &[])
+}
+
+#[test]
+fn encodes_one_grey_picture(rt: HostRuntime) -> Result<(), Fail> {
+    let alloc = rt.alloc();
+    let one = joined(alloc, &[&STREAM[..50], &header(0x10, 0, 31)])?;
+    for (more, raw, answer) in [
+        (PLAIN, 96, Ended::Done),
+        (PLAIN, 100, Ended::PartialPicture(4)),
+        ("--pictures=1", 100, Ended::PartialPicture(4)),
+        ("--pictures=1", 192, Ended::TooManyPictures),
+        ("--unit_bytes=31", 96, Ended::Done),
+    ] {
+        encodes_grey(&rt, alloc, more, raw, answer, &one, 96)?;
+    }
+    Ok(())
+}
+
+#[test]
+fn encodes_two_intra_pictures(rt: HostRuntime) -> Result<(), Fail> {
+    let alloc = rt.alloc();
     let two = joined(
         alloc,
         &[
             &STREAM[..50],
-            &next,
+            &header(0x00, 19, 31),
             &STREAM[13..32],
-            &number,
+            &[0, 0, 0, 1],
             &STREAM[36..50],
-            &end,
+            &header(0x10, 0, 31),
         ],
     )?;
-    let none = joined(alloc, &[&STREAM[..19], &header(0x10, 0, 19)])?;
-    for (more, raw, answer, stream, shown) in [
-        // the second picture refers to the first one
-        (PLAIN, 192, Ended::Done, STREAM.as_slice(), 192),
-        ("--workers=2", 192, Ended::Done, STREAM.as_slice(), 192),
-        ("--workers=5", 192, Ended::Done, STREAM.as_slice(), 192),
-        (PLAIN, 196, Ended::PartialPicture(4), STREAM.as_slice(), 192),
-        (PLAIN, 0, Ended::Done, none.as_slice(), 0),
-        (PLAIN, 1, Ended::PartialPicture(1), none.as_slice(), 0),
-        (PLAIN, 95, Ended::PartialPicture(95), none.as_slice(), 0),
-        (PLAIN, 96, Ended::Done, one.as_slice(), 96),
-        (PLAIN, 100, Ended::PartialPicture(4), one.as_slice(), 96),
-        ("--gop=1", 192, Ended::Done, two.as_slice(), 192),
-        ("--pictures=2", 192, Ended::Done, STREAM.as_slice(), 192),
-        (
-            "--pictures=1",
-            100,
-            Ended::PartialPicture(4),
-            one.as_slice(),
-            96,
-        ),
-        (
-            "--pictures=1",
-            192,
-            Ended::TooManyPictures,
-            one.as_slice(),
-            96,
-        ),
-        ("--unit_bytes=31", 96, Ended::Done, one.as_slice(), 96),
-        // the second picture's unit has 32 bytes
-        (
-            "--unit_bytes=31",
-            192,
-            Ended::UnitTooLong(1),
-            &STREAM[..50],
-            0,
-        ),
-        (
-            "--unit_bytes=30",
-            192,
-            Ended::UnitTooLong(0),
-            &STREAM[..19],
-            0,
-        ),
-        (
-            "--unit_bytes=30",
-            95,
-            Ended::PartialPicture(95),
-            none.as_slice(),
-            0,
-        ),
-    ] {
-        let words = encode_words(alloc, &SIZES, &[more])?;
-        leaves(
-            &rt,
-            alloc,
-            &words,
-            &GREY[..raw.min(GREY.len())],
-            answer,
-            stream,
-            &GREY[..shown.min(GREY.len())],
-        )?;
-    }
-    let words = encode_words(alloc, &["--width=8", "--height=8"], &[])?;
-    leaves(&rt, alloc, &words, &[], Ended::Done, &none, &[])
+    encodes_grey(&rt, alloc, "--gop=1", 192, Ended::Done, &two, 192)
 }
 
 #[test]
@@ -209,6 +209,22 @@ fn shape_words(alloc: Global, shape: &Shape, wavelet: u32, depth: u32) -> Result
     Ok(words)
 }
 
+// Decodes by this command what was encoded, and compares what is shown with the reconstructions, and the tally.
+fn shows_coded<R: Abort + Threads + Sync>(
+    rt: &R,
+    alloc: Global,
+    command: &[&str],
+    coded: &Left,
+    tally: &str,
+) -> Result<(), Fail> {
+    let shown = decoded(rt, alloc, command, coded.out.taken(), &pieces(4096))?;
+    assert_eq!(rt;
+        (shown.ended, shown.out.taken(), shown.side.taken()),
+        (Ended::Done, coded.side.taken(), tally.as_bytes())
+    );
+    Ok(())
+}
+
 // Encodes raw pictures, decodes the stream, and compares what both gave; where nothing is lost, with the input. What
 // encoding left is the answer.
 fn coded_back<R: Abort + Threads + Sync>(
@@ -220,15 +236,12 @@ fn coded_back<R: Abort + Threads + Sync>(
     tally: &str,
 ) -> Result<Left, Fail> {
     let coded = tried(rt, alloc, words, raw, &pieces(4096))?;
-    assert_eq!(rt; coded.ended, Ended::Done);
-    assert_eq!(rt; coded.side.taken().len(), raw.len());
-    if is_lossless {
-        assert_eq!(rt; coded.side.taken(), raw);
-    }
-    let shown = decoded(rt, alloc, &DECODE, coded.out.taken(), &pieces(4096))?;
-    assert_eq!(rt; shown.ended, Ended::Done);
-    assert_eq!(rt; shown.out.taken(), coded.side.taken());
-    assert_eq!(rt; shown.side.taken(), tally.as_bytes());
+    assert_eq!(rt;
+        (coded.ended, coded.side.taken().len()),
+        (Ended::Done, raw.len())
+    );
+    assert!(rt; !is_lossless || coded.side.taken() == raw);
+    shows_coded(rt, alloc, &DECODE, &coded, tally)?;
     Ok(coded)
 }
 
@@ -288,7 +301,7 @@ fn round_trips<R: Abort + Threads + Sync>(
 }
 
 #[test]
-fn decodes_what_it_encodes(rt: HostRuntime) -> Result<(), Fail> {
+fn decodes_the_groups_that_it_encodes(rt: HostRuntime) -> Result<(), Fail> {
     let alloc = rt.alloc();
     for more in [
         "--references=2",
@@ -303,73 +316,95 @@ fn decodes_what_it_encodes(rt: HostRuntime) -> Result<(), Fail> {
         group_trip(&rt, alloc, &shape_of((20, 12), 2, 0, 2, 720), more)?;
         group_trip(&rt, alloc, &shape_of((19, 9), 0, 30, 1, 1026), more)?;
     }
-    // fourteen pictures, with as many references listed as the plan keeps
+    Ok(())
+}
+
+// Fourteen pictures, by settings of the plan.
+fn planned_trip<R: Abort + Threads + Sync>(
+    rt: &R,
+    alloc: Global,
+    plan: &[&str],
+    tally: &str,
+) -> Result<(), Fail> {
+    let mut words = encode_words(alloc, &SIZES, plan)?;
+    words.push("--index=0")?;
+    let raw = noise(alloc, 1344)?;
+    codes_back(rt, alloc, &words, raw.as_slice(), true, tally)
+}
+
+// As many references are listed as the plan keeps.
+#[test]
+fn decodes_what_it_plans(rt: HostRuntime) -> Result<(), Fail> {
+    let alloc = rt.alloc();
+    let three = "pictures=14 references=3\n";
+    let eight = "pictures=14 references=8\n";
     for (gop, between, references, tally) in [
-        (
-            "--gop=14",
-            "--between=3",
-            "--references=2",
-            "pictures=14 references=3\n",
-        ),
-        (
-            "--gop=14",
-            "--between=0",
-            "--references=1",
-            "pictures=14 references=3\n",
-        ),
-        (
-            "--gop=5",
-            "--between=2",
-            "--references=1",
-            "pictures=14 references=8\n",
-        ),
-        (
-            "--gop=5",
-            "--between=1",
-            "--references=2",
-            "pictures=14 references=8\n",
-        ),
-        (
-            "--gop=1",
-            "--between=3",
-            "--references=2",
-            "pictures=14 references=8\n",
-        ),
+        ("--gop=14", "--between=3", "--references=2", three),
+        ("--gop=14", "--between=0", "--references=1", three),
+        ("--gop=5", "--between=2", "--references=1", eight),
+        ("--gop=5", "--between=1", "--references=2", eight),
+        ("--gop=1", "--between=3", "--references=2", eight),
     ] {
-        let words = encode_words(alloc, &SIZES, &[gop, between, references, "--index=0"])?;
-        let raw = noise(alloc, 1344)?;
-        codes_back(&rt, alloc, &words, raw.as_slice(), true, tally)?;
+        planned_trip(&rt, alloc, &[gop, between, references], tally)?;
     }
-    round_trips(&rt, alloc, &shape_of((1, 1), 0, 0, 1, 6))?;
-    round_trips(&rt, alloc, &shape_of((5, 3), 0, 0, 3, 90))?;
-    round_trips(&rt, alloc, &shape_of((12, 10), 0, 12, 3, 720))?;
-    round_trips(&rt, alloc, &shape_of((2, 1), 1, 0, 1, 8))?;
-    round_trips(&rt, alloc, &shape_of((6, 7), 1, 0, 3, 168))?;
-    round_trips(&rt, alloc, &shape_of((12, 10), 1, 12, 3, 480))?;
-    round_trips(&rt, alloc, &shape_of((2, 2), 2, 0, 1, 12))?;
-    round_trips(&rt, alloc, &shape_of((4, 6), 2, 0, 3, 72))?;
-    round_trips(&rt, alloc, &shape_of((12, 10), 2, 12, 3, 360))
+    Ok(())
+}
+
+#[test]
+fn decodes_what_it_encodes(rt: HostRuntime) -> Result<(), Fail> {
+    let alloc = rt.alloc();
+    for (size, chroma, index, codeblocks, bytes) in [
+        ((1, 1), 0, 0, 1, 6),
+        ((5, 3), 0, 0, 3, 90),
+        ((12, 10), 0, 12, 3, 720),
+        ((2, 1), 1, 0, 1, 8),
+        ((6, 7), 1, 0, 3, 168),
+        ((12, 10), 1, 12, 3, 480),
+        ((2, 2), 2, 0, 1, 12),
+        ((4, 6), 2, 0, 3, 72),
+        ((12, 10), 2, 12, 3, 360),
+    ] {
+        round_trips(
+            &rt,
+            alloc,
+            &shape_of(size, chroma, index, codeblocks, bytes),
+        )?;
+    }
+    Ok(())
+}
+
+// Encodes eight pictures of a shape, and decodes them by `pardecode` with this word.
+fn pardecodes<R: Abort + Threads + Sync>(
+    rt: &R,
+    alloc: Global,
+    shape: &Shape,
+    more: &str,
+    workers: &str,
+) -> Result<(), Fail> {
+    let tally = "pictures=8 references=3\n";
+    let mut words = shape_words(alloc, shape, 1, 2)?;
+    words.push(more)?;
+    let raw = noise(alloc, shape.bytes.saturating_mul(4))?;
+    let coded = coded_back(rt, alloc, &words, raw.as_slice(), false, tally)?;
+    shows_coded(rt, alloc, &["pardecode", workers], &coded, tally)
 }
 
 // Pictures of 40 rows, which have a short last slice, from one reference and from two, by one worker and by more.
 #[test]
 fn pardecodes_what_it_encodes(rt: HostRuntime) -> Result<(), Fail> {
     let alloc = rt.alloc();
-    let tally = "pictures=8 references=3\n";
     for (chroma, bytes, more, workers) in [
-        (2, 9600, "--references=2", "--workers=1"),
-        (1, 12_800, "--references=1", "--workers=3"),
-        (0, 19_200, "--references=2", "--workers=64"),
+        (2, 2400, "--references=2", "--workers=1"),
+        (1, 3200, "--references=1", "--workers=3"),
+        (0, 4800, "--references=2", "--workers=64"),
     ] {
-        let mut words = shape_words(alloc, &shape_of((20, 40), chroma, 12, 2, bytes), 1, 2)?;
-        words.push(more)?;
-        let raw = noise(alloc, bytes)?;
-        let coded = coded_back(&rt, alloc, &words, raw.as_slice(), false, tally)?;
-        let words = ["pardecode", workers];
-        let shown = decoded(&rt, alloc, &words, coded.out.taken(), &pieces(4096))?;
-        assert_eq!(rt; shown.ended, Ended::Done);
-        assert_eq!(rt; shown.out.taken(), coded.side.taken());
-        assert_eq!(rt; shown.side.taken(), tally.as_bytes());
+        pardecodes(
+            &rt,
+            alloc,
+            &shape_of((20, 40), chroma, 12, 2, bytes),
+            more,
+            workers,
+        )?;
     }
     Ok(())
 }

@@ -2,7 +2,9 @@ use crate::encoding::codes_back;
 use dirac_commands::{Ended, Words, recon_path};
 use dirac_types::{BadSetting, Name};
 use std::alloc::Global;
+use std::process::Abort;
 use std::test::Fail;
+use std::thread::Threads;
 use tests_support::{GREY, PLAIN, SIZES, SMALL, STREAM, header, joined, leaves, noise};
 
 // A picture of 2 by 2 samples, 4:4:4, and what is shown for it once its detail is lost.
@@ -37,6 +39,19 @@ fn rate_words(alloc: Global, first: &[&str], more: &[&str]) -> Result<Words, Fai
     Ok(words)
 }
 
+// Fits the picture to a budget, and compares the answer, the stream and what is shown.
+fn fits<R: Abort + Threads + Sync>(
+    rt: &R,
+    alloc: Global,
+    settings: &[&str],
+    answer: Ended,
+    stream: &[u8],
+    shown: &[u8],
+) -> Result<(), Fail> {
+    let words = rate_words(alloc, &DETAIL_SIZES, settings)?;
+    leaves(rt, alloc, &words, &DETAIL, answer, stream, shown)
+}
+
 #[test]
 fn fits_pictures_to_a_budget(rt: HostRuntime) -> Result<(), Fail> {
     let alloc = rt.alloc();
@@ -53,39 +68,41 @@ fn fits_pictures_to_a_budget(rt: HostRuntime) -> Result<(), Fail> {
             &header(0x10, 0, 34),
         ],
     )?;
-    for (budget, most, answer, stream, shown) in [
-        (
-            "--budget=33",
-            "--gop=12",
-            Ended::Done,
-            SMALL.as_slice(),
-            LOST.as_slice(),
-        ),
-        ("--budget=34", "--gop=12", Ended::Done, &exact, &DETAIL),
-        (
-            "--budget=4294967295",
-            "--gop=12",
+    for budget in ["--budget=34", "--budget=4294967295"] {
+        fits(
+            &rt,
+            alloc,
+            &[budget, "--gop=12"],
             Ended::Done,
             &exact,
             &DETAIL,
-        ),
-        // from index 5 on the unit has 33 bytes: where none fits, the last index is taken
-        ("--budget=32", "--gop=12", Ended::Done, &SMALL, &LOST),
-        ("--budget=14", "--gop=12", Ended::Done, &SMALL, &LOST),
-        // the longest unit still counts
-        ("--budget=33", "--unit_bytes=33", Ended::Done, &SMALL, &LOST),
-        (
-            "--budget=34",
-            "--unit_bytes=33",
-            Ended::UnitTooLong(0),
-            &SMALL[..18],
-            &[],
-        ),
-    ] {
-        let words = rate_words(alloc, &DETAIL_SIZES, &[budget, most])?;
-        leaves(&rt, alloc, &words, &DETAIL, answer, stream, shown)?;
+        )?;
     }
     Ok(())
+}
+
+#[test]
+fn loses_what_does_not_fit(rt: HostRuntime) -> Result<(), Fail> {
+    let alloc = rt.alloc();
+    for (budget, most) in [
+        ("--budget=33", "--gop=12"),
+        // from index 5 on the unit has 33 bytes: where none fits, the last index is taken
+        ("--budget=32", "--gop=12"),
+        ("--budget=14", "--gop=12"),
+        ("--budget=33", "--unit_bytes=33"),
+    ] {
+        fits(&rt, alloc, &[budget, most], Ended::Done, &SMALL, &LOST)?;
+    }
+    Ok(())
+}
+
+// The unit of 34 bytes fits the budget, and the longest unit still counts.
+#[test]
+fn stops_at_a_unit_that_is_too_long(rt: HostRuntime) -> Result<(), Fail> {
+    let alloc = rt.alloc();
+    let settings = ["--budget=34", "--unit_bytes=33"];
+    let answer = Ended::UnitTooLong(0);
+    fits(&rt, alloc, &settings, answer, &SMALL[..18], &[])
 }
 
 #[test]
