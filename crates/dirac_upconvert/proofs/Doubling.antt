@@ -3,11 +3,10 @@ use Rattle.std.proofs.Common.{◌≡◌, ◌≢◌, ℕ, ℤ, pos, ◌+◌, ◌-
 use Rattle.std.specs.Int.{int_shr}
 use Rattle.std.proofs.lemmas.Int.{ints, clamps}
 use Rattle.std.proofs.lemmas.List.{get_or-set_same, get_or-set_other}
-use Rattle.std.proofs.lemmas.Bool.{cases_eq, cases_lt, ne_eqb}
+use Rattle.std.proofs.lemmas.Bool.{cases_eq, ne_eqb}
 use Rattle.dirac_common.specs.Samples.{clip}
 use Rattle.dirac_upconvert.specs.HalfSamples.{IsSample, half_between, weighted_pairs, half_behind, doubled_at}
 use Rattle.dirac_upconvert.specs.Phases.{place_in_row}
-use Rattle.dirac_upconvert.specs.SubSamples.{PutFrom}
 use Rattle.dirac_upconvert.proofs.Phased.{place_even, place_odd}
 
 -- samples stand at even places
@@ -40,21 +39,6 @@ halves_more line out n m place v h e fits next ev = record {
         ap (λ i. get_or (set out place v) i (pos 0)) at ∙ get_or-set_same out place v (pos 0) fits ∙ ev
         ∙ ap (half_behind (λ i. get_or line i (pos 0)) (length line - 1)) (sym here)
     | inr other ↦ get_or-set_other out place (length line + k) v (pos 0) (omega arith) ∙ h.halves k (omega arith)
-  ];
-}
-
--- a few more
-pub halves_joined : (line mid after : List ℤ) (n m place count : ℕ) (f : ℕ → ℤ) → HalvesBelow line mid n → PutFrom place count f mid after → place ≡ length line + n → m ≡ n + count
-    → ((k : ℕ) → k < count → f k ≡ half_behind (λ i. get_or line i (pos 0)) (length line - 1) (n + k)) → HalvesBelow line after m
-halves_joined line mid after n m place count f h p e next same = record {
-  wholes = λ k l. p.kept k (omega (arith, e, l)) ∙ h.wholes k l;
-  halves = λ k l. elim (cases_lt k n) [
-    | inl before ↦ p.kept (length line + k) (omega (arith, e, before)) ∙ h.halves k before
-    | inr past ↦
-        let at : length line + k ≡ place + (k - n) = omega (arith, e, past) in
-        let there : n + (k - n) ≡ k = omega (arith, past) in
-        ap (λ i. get_or after i (pos 0)) at ∙ p.value (k - n) (omega (arith, l, past, next)) ∙ same (k - n) (omega (arith, l, past, next))
-        ∙ ap (half_behind (λ i. get_or line i (pos 0)) (length line - 1)) there
   ];
 }
 

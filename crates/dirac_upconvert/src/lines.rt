@@ -92,21 +92,6 @@ fn half_inside(line: &[i16], i: usize) -> i16
     })
 }
 
-/// The half samples behind the places of a line from place `i` on.
-#[inline(always)]
-fn halves_inside(line: &[i16], i: usize, out: &mut [i16])
-    requires before { 3 ≤ i }
-    requires behind { i + length out.old + 3 < length line.now }
-    requires samples { All IsSample line.now }
-    ensures value { (k : ℕ) → k < length out.old → slice_index_or out.new k (pos 0)
-        ≡ half_behind (λ n. slice_index_or line.now n (pos 0)) (length line.now - 1) (i + k) }
-    ensures samples { All IsSample out.new }
-{
-    for k in 0..out.len() {
-        out[k] = half_inside(line, i + k);
-    }
-}
-
 /// A sample in eight bits.
 #[inline(always)]
 fn narrowed(sample: i16) -> i8
@@ -128,22 +113,6 @@ fn put_narrowed(samples: &[i16], out: &mut [i8], first: usize)
     }
 }
 
-/// Writes the half samples behind eight places of a line from place `i` on, into a list from place `first` on. They
-/// stand in a list of their own first, so that they are computed side by side.
-#[inline(always)]
-fn put_eight(line: &[i16], i: usize, out: &mut [i8], first: usize)
-    requires before { 3 ≤ i }
-    requires behind { i + 11 < length line.now }
-    requires inside { first + 8 ≤ length out.old }
-    requires samples { All IsSample line.now }
-    ensures { PutFrom first 8 (λ k. half_behind (λ n. slice_index_or line.now n (pos 0)) (length line.now - 1) (i + k))
-        out.old out.new }
-{
-    let mut lanes = [0i16; 8];
-    halves_inside(line, i, &mut lanes);
-    put_narrowed(&lanes, out, first);
-}
-
 /// Writes the samples of a line, and then the half samples behind all of them but the last.
 pub fn double_line(line: &[i16], out: &mut [i8])
     requires not_empty { 1 ≤ length line.now }
@@ -160,11 +129,7 @@ pub fn double_line(line: &[i16], out: &mut [i8])
     'left: for i in 0..low {
         out[count + i] = narrowed(half_clamped(line, i));
     }
-    let eights = (high - low) / 8;
-    'eights: for c in 0..eights {
-        put_eight(line, low + 8 * c, out, count + (low + 8 * c));
-    }
-    'inside: for i in low + 8 * eights..high {
+    'inside: for i in low..high {
         out[count + i] = narrowed(half_inside(line, i));
     }
     'right: for i in high..last {

@@ -2,7 +2,7 @@ use Rattle.std.proofs.Common.{◌≡◌, ◌+◌, pos, length, get_or, arith, re
 use Rattle.std.specs.Int.{w8, w16}
 use Rattle.std.proofs.lemmas.Int.{to_z-of_z}
 use Rattle.dirac_upconvert.specs.Phases.{place_in_row}
-use Rattle.dirac_upconvert.proofs.Doubling.{halves_all, halves_joined, halves_more}
+use Rattle.dirac_upconvert.proofs.Doubling.{halves_all, halves_more}
 use Rattle.dirac_upconvert.proofs.lines.double_line.Goals as goal
 
 pub left-init : goal.left-init
@@ -12,10 +12,6 @@ pub left-preserved : goal.left-preserved
 left-preserved c =
     halves_more _ _ c.left.i _ _ _ c.left.invariant refl (omega arith) refl
     (to_z-of_z w8 _ (record { sfits = c.narrowed.type_inv }) ∙ c.narrowed.ensures ∙ to_z-of_z w16 _ (record { sfits = c.half_clamped.type_inv }) ∙ c.half_clamped.ensures.value)
-
-pub eights-preserved : goal.eights-preserved
-eights-preserved c =
-    halves_joined _ c.eights.out _ _ _ _ 8 _ c.eights.invariant c.put_eight.ensures refl (omega arith) (λ k b. refl)
 
 pub inside-preserved : goal.inside-preserved
 inside-preserved c =

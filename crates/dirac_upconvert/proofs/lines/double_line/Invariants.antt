@@ -1,12 +1,8 @@
-use Rattle.std.proofs.Common.{◌+◌, ◌*◌}
 use Rattle.dirac_upconvert.proofs.Doubling.{HalvesBelow}
 use Rattle.dirac_upconvert.proofs.lines.double_line.Given as goal
 
 abbrev pub invariant-left : goal.invariant-left
 invariant-left l = HalvesBelow l.line l.out l.i
-
-abbrev pub invariant-eights : goal.invariant-eights
-invariant-eights l = HalvesBelow l.line l.out (l.low + 8 * l.c)
 
 abbrev pub invariant-inside : goal.invariant-inside
 invariant-inside l = HalvesBelow l.line l.out l.i
