@@ -1,5 +1,5 @@
 -- What is due when the source fails, computed on small cases.
-use Rattle.std.proofs.Common.{◌≡◌, ◌∙◌, List, [], ◌∷◌, Some, refl, sym, ap, append-nil}
+use Rattle.std.proofs.Common.{◌≡◌, ◌∙◌, [], ◌∷◌, Some, refl, sym, ap, append-nil}
 use Rattle.std.specs.Prelude.{pos}
 use Rattle.std.specs.Io.KnownBytes.{Appends}
 use Rattle.dirac_common.specs.declared.picture.Picture.{Picture}

@@ -7,6 +7,9 @@ ghost use Rattle.dirac_content.specs.Raw.{byte_of, plane_bytes, raw};
 use dirac_common::{NoMemory, Picture, Plane};
 use dirac_io::{Put, Sink, put_all};
 
+/// How many samples are made bytes and written at once at most, so that these are still at hand when they are written.
+const MOST_BYTES_AT_ONCE: usize = 65_536;
+
 /// Writes a raw picture: the rows of Y from top to bottom, then U, then V, a byte a sample. `bytes` is a
 /// buffer for the bytes of a plane, whatever it holds.
 pub fn put_picture<K: Sink>(out: &mut K, picture: &Picture, bytes: &mut Vec<u8>) -> Put
@@ -26,14 +29,32 @@ pub fn put_picture<K: Sink>(out: &mut K, picture: &Picture, bytes: &mut Vec<u8>)
     put_plane(out, &picture.v, bytes)
 }
 
-/// Writes a plane, all its rows at once.
+/// Writes a plane, piece by piece.
 fn put_plane<K: Sink>(out: &mut K, plane: &Plane, bytes: &mut Vec<u8>) -> Put
     ensures all { result ≡ Put.All → Appends (K.taken out.old) (K.taken out.new) (plane_bytes plane.now) }
     ensures front { AppendsFront (K.taken out.old) (K.taken out.new) (plane_bytes plane.now) }
     ensures failed { result ≡ Put.Failed → Rose (K.faults out.old) (K.faults out.new) }
     ensures count { K.faults out.old ≤ K.faults out.new }
 {
-    match fill_bytes(bytes, plane.values()) {
+    let mut rest = plane.values();
+    'pieces: while !rest.is_empty() {
+        let (piece, behind) = rest.split_at(rest.len().min(MOST_BYTES_AT_ONCE));
+        match put_samples(out, piece, bytes) {
+            Put::All => rest = behind,
+            unwritten => return unwritten,
+        }
+    }
+    Put::All
+}
+
+/// Writes samples as bytes.
+fn put_samples<K: Sink>(out: &mut K, samples: &[i16], bytes: &mut Vec<u8>) -> Put
+    ensures all { result ≡ Put.All → Appends (K.taken out.old) (K.taken out.new) (map byte_of samples.now) }
+    ensures front { AppendsFront (K.taken out.old) (K.taken out.new) (map byte_of samples.now) }
+    ensures failed { result ≡ Put.Failed → Rose (K.faults out.old) (K.faults out.new) }
+    ensures count { K.faults out.old ≤ K.faults out.new }
+{
+    match fill_bytes(bytes, samples) {
         Ok(()) => put_all(out, bytes.as_slice()),
         Err(NoMemory) => Put::NoMemory,
     }
