@@ -5,7 +5,7 @@ use Rattle.dirac_common.specs.declared.picture.Picture.{Picture}
 use Rattle.dirac_types.specs.declared.settings.Settings.{Settings}
 use Rattle.dirac_block_table.specs.Tables.{BlockTable}
 use Rattle.dirac_search.specs.Candidates.{Vectors}
-use Rattle.dirac_search_laws.proofs.Workers.{field_same}
+use Rattle.dirac_search.proofs.Workers.{field_same}
 use Rattle.dirac_sequence.specs.Written.{sequence_of, sequence_payload}
 use Rattle.dirac_picture.specs.Grammar.{is_intra}
 use Rattle.dirac_picture.specs.declared.coded.CodedMotion.{CodedMotion}

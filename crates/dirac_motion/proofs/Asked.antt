@@ -19,6 +19,7 @@ use Rattle.dirac_picture.specs.Grammar.{superblocks_over}
 use Rattle.dirac_content.specs.Content.{IsPicture}
 use Rattle.dirac_pyramid.specs.Pyramid.{pyramid_level, pyramid_of}
 use Rattle.dirac_search.specs.Fields.{IsSearch, field}
+use Rattle.dirac_search.specs.Given.{Searched}
 use Rattle.dirac_search.proofs.Accepted.{search_accepted}
 use Rattle.dirac_search.proofs.Bounds.{all_short, sub_bound, sub_former}
 use Rattle.dirac_decide.specs.Deciding.{IsDeciding, IsSearched, IsView, View, deciding}
@@ -124,3 +125,19 @@ is_deciding s p first second a is found also =
       first = is_view s p first cover found;
       second = λ r e. is_view s p r cover (also r e);
     }
+
+-- the number of workers may be any other in its range
+pub by_other_workers : (g : Searched) (s : Settings) (w : ℕ) → IsSearch g s → (1 ≤ w) × (w ≤ 64) → IsSearch g (record s { workers = w })
+by_other_workers g s w h of = record {
+  range = h.range;
+  pyramid = h.pyramid;
+  precision = h.precision;
+  bias = h.bias;
+  workers = of;
+  source = h.source;
+  reference = h.reference;
+  x_separation = h.x_separation;
+  y_separation = h.y_separation;
+  across = h.across;
+  down = h.down;
+}

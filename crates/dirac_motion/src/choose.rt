@@ -8,8 +8,8 @@ ghost use Rattle.dirac_motion.specs.Chosen.{IsChoosing, IsChosen, IsChosenAtEach
 ghost use Rattle.dirac_motion.specs.Chosen.{chosen_unless_intra};
 ghost use Rattle.dirac_motion.specs.Lent.{AreLent, first_of, second_of};
 
-use crate::lent::{Lumas, References};
-use crate::search::vectors_in;
+use crate::lent::{Lumas, Reference, References};
+use crate::search::{SearchedFor, vectors_in, vectors_in_both};
 use dirac_block_table::BlockData;
 use dirac_common::{NoMemory, Picture, RowGate};
 use dirac_content::named_reference;
@@ -18,14 +18,27 @@ use dirac_picture::is_intra;
 use dirac_plan::Planned;
 use dirac_pyramid::Pyramid;
 use dirac_refs::RefBuffer;
+use dirac_search::Field;
 use dirac_types::Settings;
 use std::alloc::Global;
 use std::marker::Sync;
 use std::thread::Threads;
 
+/// A reference as it is decided with: its luma, and the vectors that are found in it.
+fn view<'a>(reference: Reference<'a>, field: &'a Field) -> RefView<'a>
+    ensures up { result.up.now ≡ reference.entry.luma.now }
+    ensures field { result.field.now ≡ field.now }
+{
+    RefView {
+        up: reference.luma,
+        field,
+    }
+}
+
 /// The block table of a picture with these references, whose luma is upconverted already.
 ///
-/// The gate is called before each row of superblocks of each stage of the search, in one reference after the other.
+/// The gate is called before each row of superblocks of each stage of the search. With two workers or more two
+/// references are searched side by side.
 pub fn choose_from<R: Threads + Sync, G: RowGate>(
     rt: &R,
     alloc: Global,
@@ -40,21 +53,21 @@ pub fn choose_from<R: Threads + Sync, G: RowGate>(
     ensures { IfOk result (λ t. t
         ≡ blocks_from settings.now source.now (first_of references.now) (second_of references.now)) }
 {
-    let first = references.first;
     let pyramid = Pyramid::build(alloc, &source.y, settings.pyramid as u8)?;
-    let field1 = vectors_in(rt, alloc, source, &pyramid, first, settings, gate)?;
-    let view1 = RefView {
-        up: first.luma,
-        field: &field1,
+    let searched = SearchedFor {
+        picture: source,
+        pyramid: &pyramid,
     };
+    let first = references.first;
     match references.second {
-        None => decide_by_workers(rt, alloc, source, settings, view1, None),
+        None => {
+            let field = vectors_in(rt, alloc, searched, first, settings, settings.workers, gate)?;
+            decide_by_workers(rt, alloc, source, settings, view(first, &field), None)
+        }
         Some(second) => {
-            let field2 = vectors_in(rt, alloc, source, &pyramid, second, settings, gate)?;
-            let view2 = RefView {
-                up: second.luma,
-                field: &field2,
-            };
+            let fields = vectors_in_both(rt, alloc, searched, first, second, settings, gate)?;
+            let view1 = view(first, &fields.first);
+            let view2 = view(second, &fields.second);
             decide_by_workers(rt, alloc, source, settings, view1, Some(view2))
         }
     }
@@ -87,7 +100,7 @@ fn choose_for<R: Threads + Sync, G: RowGate>(
 
 /// The block table of a planned picture, whose references are listed: `None` exactly for an intra picture.
 ///
-/// The gate is called before each row of superblocks of each stage of the search, in one reference after the other.
+/// The gate is called before each row of superblocks of each stage of the search, as `choose_from` has it.
 pub fn choose_blocks<R: Threads + Sync, G: RowGate>(
     rt: &R,
     alloc: Global,

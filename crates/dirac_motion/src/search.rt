@@ -1,12 +1,9 @@
-ghost use Rattle.std.specs.Prelude.{◌≡◌, IfOk};
+ghost use Rattle.std.specs.Prelude.{◌≤◌, IfOk};
+ghost use Rattle.std.specs.Thread.{IsSync};
 ghost use Rattle.dirac_types.specs.Settings.{IsAccepted};
 ghost use Rattle.dirac_sequence.specs.Written.{sequence_of as the_sequence};
-ghost use Rattle.dirac_content.specs.Content.{IsPicture};
-ghost use Rattle.dirac_pyramid.specs.Pyramid.{pyramid_of};
-ghost use Rattle.dirac_search.specs.Fields.{field};
-ghost use Rattle.dirac_decide.specs.Deciding.{IsSearched};
-ghost use Rattle.dirac_motion.specs.Chosen.{searched_in};
 ghost use Rattle.dirac_motion.specs.Lent.{IsReference};
+ghost use Rattle.dirac_motion.specs.Searching.{IsFoundIn, IsSearchedFor};
 
 use crate::lent::Reference;
 use dirac_common::{NoMemory, Picture, RowGate};
@@ -18,38 +15,161 @@ use dirac_sequence::sequence_of;
 use dirac_types::Settings;
 use std::alloc::Global;
 use std::marker::Sync;
-use std::thread::Threads;
+use std::thread::{Threads, join};
 
-/// The vectors of a picture's blocks in a reference. The pyramid is that of the source's luma.
+/// A picture whose blocks are searched for in its references, and the pyramid of its luma.
+#[derive(Clone, Copy)]
+pub struct SearchedFor<'a> {
+    pub picture: &'a Picture,
+    pub pyramid: &'a Pyramid,
+}
+
+/// The vectors of a picture's blocks in each of its two references.
+#[derive(Drop)]
+pub struct TwoFields {
+    pub first: Field,
+    pub second: Field,
+}
+
+/// The vectors of a picture's blocks in a reference, searched by so many workers, whatever the settings' own number is.
 pub fn vectors_in<R: Threads + Sync, G: RowGate>(
     rt: &R,
     alloc: Global,
-    source: &Picture,
-    pyramid: &Pyramid,
+    source: SearchedFor<'_>,
     reference: Reference<'_>,
     settings: &Settings,
+    workers: u32,
     gate: &G,
 ) -> Result<Field, NoMemory>
     requires settings { IsAccepted settings.now }
-    requires source { IsPicture (the_sequence settings.now) source.now }
-    requires pyramid { pyramid.now ≡ pyramid_of source.now.y settings.now.pyramid }
+    requires workers { (1 ≤ workers) × (workers ≤ 64) }
+    requires source { IsSearchedFor settings.now source }
     requires reference { IsReference (the_sequence settings.now) reference }
-    ensures value { IfOk result (λ f. f
-        ≡ field (searched_in settings.now source.now reference.entry.picture.now) settings.now) }
-    ensures found { IfOk result (λ f. IsSearched settings.now source.now
-        (record { up = reference.entry.luma.now; field = f })) }
+    ensures { IfOk result (IsFoundIn settings.now source.entry.picture.now reference.entry) }
 {
     let sequence = sequence_of(settings);
     let grid = block_grid(u64::from(settings.blocks));
     let listed = reference.picture.picture();
     let other = Pyramid::build(alloc, &listed.y, settings.pyramid as u8)?;
     let search = Search {
-        source: pyramid,
+        source: source.pyramid,
         reference: &other,
         up: reference.luma,
         grid,
         across: superblocks_over(sequence.width, grid.xbsep),
         down: superblocks_over(sequence.picture_height(), grid.ybsep),
     };
-    search_field(rt, alloc, &search, settings, gate)
+    let by_workers = Settings {
+        workers,
+        ..*settings
+    };
+    let field = search_field(rt, alloc, &search, &by_workers, gate)?;
+    Ok(field)
+}
+
+/// How many workers search each of two references.
+#[derive(Clone, Copy)]
+struct Shares {
+    first: u32,
+    second: u32,
+}
+
+/// Half of the workers for each; the first gets the one that is left over.
+fn halved(settings: &Settings) -> Shares
+    requires settings { IsAccepted settings.now }
+    requires at_least_2 { 2 ≤ settings.now.workers }
+    ensures first { (1 ≤ result.first) × (result.first ≤ 64) }
+    ensures second { (1 ≤ result.second) × (result.second ≤ 64) }
+{
+    let second = settings.workers / 2;
+    Shares {
+        first: settings.workers - second,
+        second,
+    }
+}
+
+/// The vectors of a picture's blocks in two references, which are searched side by side, each by half of the workers.
+fn vectors_side_by_side<R: Threads + Sync, G: RowGate>(
+    rt: &R,
+    alloc: Global,
+    source: SearchedFor<'_>,
+    one: Reference<'_>,
+    other: Reference<'_>,
+    settings: &Settings,
+    gate: &G,
+) -> Result<TwoFields, NoMemory>
+    requires settings { IsAccepted settings.now }
+    requires at_least_2 { 2 ≤ settings.now.workers }
+    requires source { IsSearchedFor settings.now source }
+    requires one { IsReference (the_sequence settings.now) one }
+    requires other { IsReference (the_sequence settings.now) other }
+    ensures first { IfOk result (λ fs. IsFoundIn settings.now source.entry.picture.now one.entry fs.first) }
+    ensures second { IfOk result (λ fs. IsFoundIn settings.now source.entry.picture.now other.entry fs.second) }
+{
+    let shares = halved(settings);
+    // Each closure borrows what these hold: of a borrowed struct of borrows `join` passes nothing on.
+    let SearchedFor { picture, pyramid } = source;
+    let (listed1, luma1) = (one.picture, one.luma);
+    let (listed2, luma2) = (other.picture, other.luma);
+    let (theirs, ours) = join(
+        rt,
+        || -> Result<Field, NoMemory>
+            requires { IsSync R.row × IsSync G.row × IsAccepted settings.now
+                × (1 ≤ shares.second) × (shares.second ≤ 64)
+                × IsSearchedFor settings.now (record { picture = picture; pyramid = pyramid })
+                × IsReference (the_sequence settings.now) (record { picture = listed2; luma = luma2 }) }
+            ensures { IfOk result (IsFoundIn settings.entry.now picture.entry.now
+                (record { picture = listed2.entry; luma = luma2.entry })) }
+        {
+            let source = SearchedFor { picture, pyramid };
+            let reference = Reference {
+                picture: listed2,
+                luma: luma2,
+            };
+            vectors_in(rt, alloc, source, reference, settings, shares.second, gate)
+        },
+        || -> Result<Field, NoMemory>
+            requires { IsSync R.row × IsSync G.row × IsAccepted settings.now
+                × (1 ≤ shares.first) × (shares.first ≤ 64)
+                × IsSearchedFor settings.now (record { picture = picture; pyramid = pyramid })
+                × IsReference (the_sequence settings.now) (record { picture = listed1; luma = luma1 }) }
+            ensures { IfOk result (IsFoundIn settings.entry.now picture.entry.now
+                (record { picture = listed1.entry; luma = luma1.entry })) }
+        {
+            let source = SearchedFor { picture, pyramid };
+            let reference = Reference {
+                picture: listed1,
+                luma: luma1,
+            };
+            vectors_in(rt, alloc, source, reference, settings, shares.first, gate)
+        },
+    );
+    let first = ours?;
+    let second = theirs?;
+    Ok(TwoFields { first, second })
+}
+
+/// The vectors of a picture's blocks in two references: one after the other by one worker, side by side by more.
+pub fn vectors_in_both<R: Threads + Sync, G: RowGate>(
+    rt: &R,
+    alloc: Global,
+    source: SearchedFor<'_>,
+    one: Reference<'_>,
+    other: Reference<'_>,
+    settings: &Settings,
+    gate: &G,
+) -> Result<TwoFields, NoMemory>
+    requires settings { IsAccepted settings.now }
+    requires source { IsSearchedFor settings.now source }
+    requires one { IsReference (the_sequence settings.now) one }
+    requires other { IsReference (the_sequence settings.now) other }
+    ensures first { IfOk result (λ fs. IsFoundIn settings.now source.entry.picture.now one.entry fs.first) }
+    ensures second { IfOk result (λ fs. IsFoundIn settings.now source.entry.picture.now other.entry fs.second) }
+{
+    if settings.workers > 1 {
+        return vectors_side_by_side(rt, alloc, source, one, other, settings, gate);
+    }
+    let first = vectors_in(rt, alloc, source, one, settings, 1, gate)?;
+    let second = vectors_in(rt, alloc, source, other, settings, 1, gate)?;
+    Ok(TwoFields { first, second })
 }

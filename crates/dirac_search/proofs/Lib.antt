@@ -13,3 +13,4 @@ mod Lists
 mod Reaches
 mod Repeats
 mod Stopping
+pub mod Workers

@@ -3,4 +3,3 @@ pub mod Fields
 pub mod Insides
 pub mod Least
 pub mod Rows
-pub mod Workers

@@ -1,4 +1,5 @@
 use Rattle.std.proofs.Common.{arith}
+use Rattle.dirac_types.proofs.Accepted.{in_range}
 use Rattle.dirac_motion.proofs.Asked.{levels_accepted, width_within, height_within}
 use Rattle.dirac_motion.proofs.choose.choose_from.Goals as goal
 
@@ -14,5 +15,8 @@ build-requires-clause-at_most_8192_across g c = omega (arith, width_within c.arg
 pub build-requires-clause-at_most_8192_down : goal.build-requires-clause-at_most_8192_down
 build-requires-clause-at_most_8192_down g c = omega (arith, height_within c.args.settings.now c.args.source.now c.requires.settings c.requires.source)
 
-pub vectors_in-requires-in-Some-clause-reference : goal.vectors_in-requires-in-Some-clause-reference
-vectors_in-requires-in-Some-clause-reference g c κs within = c.requires.references.second c.in-Some.second c.in-Some.is
+pub vectors_in-requires-clause-workers : goal.vectors_in-requires-clause-workers
+vectors_in-requires-clause-workers g c κs within = (in_range c.args.settings.now c.requires.settings).workers
+
+pub vectors_in_both-requires-clause-other : goal.vectors_in_both-requires-clause-other
+vectors_in_both-requires-clause-other g c κs within = c.requires.references.second c.in-Some.second c.in-Some.is

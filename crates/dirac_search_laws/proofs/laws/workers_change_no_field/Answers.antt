@@ -1,4 +1,4 @@
-use Rattle.dirac_search_laws.proofs.Workers.{field_same}
+use Rattle.dirac_search.proofs.Workers.{field_same}
 use Rattle.dirac_search_laws.proofs.laws.workers_change_no_field.Goals as goal
 
 pub returns : goal.returns

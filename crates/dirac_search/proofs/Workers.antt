@@ -4,10 +4,9 @@ use Rattle.dirac_types.specs.declared.settings.Settings.{Settings}
 use Rattle.dirac_search.specs.declared.stage.Stage.{Stage}
 use Rattle.dirac_search.specs.declared.stage.Stage.TheVariants as stage
 use Rattle.dirac_search.specs.Candidates.{Vectors}
-use Rattle.dirac_search.specs.Fields.{after_finer, after_sub, best_of, stage_field}
+use Rattle.dirac_search.specs.Fields.{after_finer, after_sub, best_of, field, stage_field}
 use Rattle.dirac_search.specs.Given.{Searched}
 use Rattle.dirac_search.specs.Kept.{candidates_kept, stage_keeps}
-use Rattle.dirac_search_laws.specs.Fields.{WorkersChangeNoField}
 
 -- the same settings with that many workers
 abbrev by : Settings → ℕ → Settings
@@ -29,5 +28,5 @@ sub_same g s w (suc q) =
     stage_same g s w (stage.Sub (suc q)) (Some (after_sub g (by s w) q))
     ∙ ap (λ (f : Vectors). stage_field g s (stage.Sub (suc q)) (Some f)) (sub_same g s w q)
 
-pub field_same : WorkersChangeNoField
+pub field_same : (g : Searched) (s : Settings) (workers : ℕ) → field g (record s { workers = workers }) ≡ field g s
 field_same g s w = sub_same g s w s.precision
