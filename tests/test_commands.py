@@ -574,6 +574,16 @@ class Parts(unittest.TestCase):
                     program.start_decoder([b""], False)
             start.assert_called_once_with(words, [b""])
 
+    def test_the_program_is_started_with_what_is_said_of_memory(self):
+        words = ["-c", "import os; print(os.environ['GLIBC_TUNABLES'], end='')"]
+        for own in ({}, {"GLIBC_TUNABLES": "glibc.malloc.tcache_count=1"}):
+            with mock.patch.dict(os.environ, {"DIRAC_TOOL": sys.executable}):
+                os.environ.pop("GLIBC_TUNABLES", None)
+                os.environ.update(own)
+                started = program.start(words, [])
+                self.assertEqual(started.read().decode(), {**program.MEMORY, **own}["GLIBC_TUNABLES"])
+                self.assertEqual(started.finish(), (0, ""))
+
     def test_settings_of_the_program_are_those_of_the_encoder(self):
         names = [name for name, _, _ in encoder.SETTING_RANGES]
         given = {"chroma", "width", "height", "rate", "signal", "fields", "pictures"}

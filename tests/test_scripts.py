@@ -11,6 +11,7 @@ import sys
 import tempfile
 import unittest
 import zlib
+from unittest import mock
 
 from tests import support
 from tests.support import TOP, InFolder, conformance, decoder, encoded, encoder, raw_pictures, script, shown
@@ -307,6 +308,15 @@ class Wrapper(InFolder):
         self.assertEqual(self.run_on(b"", "list"), (b"list\n", ""))
         (self.folder / "link").symlink_to("run")
         self.assertEqual(self.run_on(b"BBCD", "list", path=self.folder / "link"), (b"list\nBBCD", ""))
+
+    def test_sets_how_memory_is_taken(self):
+        program = self.folder / "crates" / "dirac_tool" / "out" / "dirac_tool"
+        program.write_text('#!/bin/sh\nprintf %s "$GLIBC_TUNABLES"\n')
+        with mock.patch.dict(os.environ):
+            os.environ.pop("GLIBC_TUNABLES", None)
+            self.assertEqual(self.run_on(b"", "list")[0].decode(), support.program.MEMORY["GLIBC_TUNABLES"])
+            os.environ["GLIBC_TUNABLES"] = "glibc.malloc.tcache_count=1"
+            self.assertEqual(self.run_on(b"", "list")[0], b"glibc.malloc.tcache_count=1")
 
     def test_hints(self):
         rows = [

@@ -19,10 +19,11 @@ def pieces(file):
 class Pipe:
     """A program whose standard output is read here, while a thread of its own feeds it these pieces."""
 
-    def __init__(self, words, fed=None, passed=()):
+    def __init__(self, words, fed=None, passed=(), environment=None):
         self.errors = tempfile.TemporaryFile()
         stdin = subprocess.DEVNULL if fed is None else subprocess.PIPE
-        self.process = subprocess.Popen(words, stdin=stdin, stdout=subprocess.PIPE, stderr=self.errors, pass_fds=passed)
+        how = {"stderr": self.errors, "pass_fds": passed, "env": environment}
+        self.process = subprocess.Popen(words, stdin=stdin, stdout=subprocess.PIPE, **how)
         self.output, self.problem, self.thread = self.process.stdout, None, None
         self.read, self.read1, self.readline = self.output.read, self.output.read1, self.output.readline
         if fed is not None:
