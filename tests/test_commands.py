@@ -581,7 +581,7 @@ class Parts(unittest.TestCase):
                 os.environ.pop("GLIBC_TUNABLES", None)
                 os.environ.update(own)
                 started = program.start(words, [])
-                self.assertEqual(started.read().decode(), {**program.MEMORY, **own}["GLIBC_TUNABLES"])
+                self.assertEqual(started.read().decode(), {**program.memory_for(words), **own}["GLIBC_TUNABLES"])
                 self.assertEqual(started.finish(), (0, ""))
 
     def test_settings_of_the_program_are_those_of_the_encoder(self):

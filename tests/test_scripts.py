@@ -314,7 +314,9 @@ class Wrapper(InFolder):
         program.write_text('#!/bin/sh\nprintf %s "$GLIBC_TUNABLES"\n')
         with mock.patch.dict(os.environ):
             os.environ.pop("GLIBC_TUNABLES", None)
-            self.assertEqual(self.run_on(b"", "list")[0].decode(), support.program.MEMORY["GLIBC_TUNABLES"])
+            for command in ("list", "decode", "pardecode", "encode"):
+                said = support.program.memory_for([command])["GLIBC_TUNABLES"]
+                self.assertEqual(self.run_on(b"", command)[0].decode(), said)
             os.environ["GLIBC_TUNABLES"] = "glibc.malloc.tcache_count=1"
             self.assertEqual(self.run_on(b"", "list")[0], b"glibc.malloc.tcache_count=1")
 

@@ -13,12 +13,10 @@ PLAIN = TOP / "bench" / "reference" / "decode.py"
 VARIABLE = "DIRAC_TOOL"
 FAULT = 4
 MOST_WORKERS = 64
-# Of the C library's memory: large pages, one pool for all threads, which has all tables below 32 MB, and what is freed
-# stays at hand. The same bytes in less time. `run` sets the same.
-MEMORY = {
-    "GLIBC_TUNABLES": "glibc.malloc.hugetlb=1:glibc.malloc.arena_max=1"
-    ":glibc.malloc.mmap_threshold=33554432:glibc.malloc.trim_threshold=1073741824"
-}
+# Of the C library's memory: large pages, tables below 32 MB from its own store, and what is freed stays at hand; the
+# workers of pardecode have one store. The same bytes in less time. `run` sets the same.
+TUNABLES = "glibc.malloc.hugetlb=1:glibc.malloc.mmap_threshold=33554432:glibc.malloc.trim_threshold=1073741824"
+ONE_STORE = ":glibc.malloc.arena_max=1"
 
 NOT_OF_PROFILE = "LowDelay Vlc Version Preset ChromaFormat Sampling RateIndex AspectIndex SignalRange Depth8 Fields"
 NOT_OF_PROFILE += " GlobalMotion PredictionMode BlockPreset"
@@ -62,8 +60,13 @@ def place():
     return path
 
 
+def memory_for(words):
+    """What the environment says of the program's memory, where these are its words."""
+    return {"GLIBC_TUNABLES": TUNABLES + (ONE_STORE if words[:1] == ["pardecode"] else "")}
+
+
 def start(words, fed, passed=()):
-    return Pipe([place(), *words], fed, passed, {**MEMORY, **os.environ})
+    return Pipe([place(), *words], fed, passed, {**memory_for(words), **os.environ})
 
 
 def workers():
