@@ -9,7 +9,7 @@ ghost use Rattle.dirac_motion.specs.Chosen.{chosen_unless_intra};
 ghost use Rattle.dirac_motion.specs.Lent.{AreLent, first_of, second_of};
 
 use crate::lent::{Lumas, Reference, References};
-use crate::search::{SearchedFor, vectors_in, vectors_in_both};
+use crate::search::{SearchedFor, SearchedInTwo, vectors_in, vectors_in_both};
 use dirac_block_table::BlockData;
 use dirac_common::{NoMemory, Picture, RowGate};
 use dirac_content::named_reference;
@@ -65,7 +65,13 @@ pub fn choose_from<R: Threads + Sync, G: RowGate>(
             decide_by_workers(rt, alloc, source, settings, view(first, &field), None)
         }
         Some(second) => {
-            let fields = vectors_in_both(rt, alloc, searched, first, second, settings, gate)?;
+            let searched = SearchedInTwo {
+                source: searched,
+                first,
+                second,
+                settings,
+            };
+            let fields = vectors_in_both(rt, alloc, searched, gate)?;
             let view1 = view(first, &fields.first);
             let view2 = view(second, &fields.second);
             decide_by_workers(rt, alloc, source, settings, view1, Some(view2))

@@ -3,7 +3,7 @@ ghost use Rattle.std.specs.Thread.{IsSync};
 ghost use Rattle.dirac_types.specs.Settings.{IsAccepted};
 ghost use Rattle.dirac_sequence.specs.Written.{sequence_of as the_sequence};
 ghost use Rattle.dirac_motion.specs.Lent.{IsReference};
-ghost use Rattle.dirac_motion.specs.Searching.{IsFoundIn, IsSearchedFor};
+ghost use Rattle.dirac_motion.specs.Searching.{AreSearchedIn, IsFoundIn, IsSearchedFor};
 
 use crate::lent::Reference;
 use dirac_common::{NoMemory, Picture, RowGate};
@@ -67,6 +67,15 @@ pub fn vectors_in<R: Threads + Sync, G: RowGate>(
     Ok(field)
 }
 
+/// A picture that is searched for in two references.
+#[derive(Clone, Copy)]
+pub struct SearchedInTwo<'a> {
+    pub source: SearchedFor<'a>,
+    pub first: Reference<'a>,
+    pub second: Reference<'a>,
+    pub settings: &'a Settings,
+}
+
 /// How many workers search each of two references.
 #[derive(Clone, Copy)]
 struct Shares {
@@ -92,25 +101,22 @@ fn halved(settings: &Settings) -> Shares
 fn vectors_side_by_side<R: Threads + Sync, G: RowGate>(
     rt: &R,
     alloc: Global,
-    source: SearchedFor<'_>,
-    one: Reference<'_>,
-    other: Reference<'_>,
-    settings: &Settings,
+    searched: SearchedInTwo<'_>,
     gate: &G,
 ) -> Result<TwoFields, NoMemory>
-    requires settings { IsAccepted settings.now }
-    requires at_least_2 { 2 ≤ settings.now.workers }
-    requires source { IsSearchedFor settings.now source }
-    requires one { IsReference (the_sequence settings.now) one }
-    requires other { IsReference (the_sequence settings.now) other }
-    ensures first { IfOk result (λ fs. IsFoundIn settings.now source.entry.picture.now one.entry fs.first) }
-    ensures second { IfOk result (λ fs. IsFoundIn settings.now source.entry.picture.now other.entry fs.second) }
+    requires searched { AreSearchedIn searched }
+    requires at_least_2 { 2 ≤ searched.settings.now.workers }
+    ensures first { IfOk result (λ fs. IsFoundIn searched.entry.settings.now searched.entry.source.picture.now
+        searched.entry.first fs.first) }
+    ensures second { IfOk result (λ fs. IsFoundIn searched.entry.settings.now searched.entry.source.picture.now
+        searched.entry.second fs.second) }
 {
-    let shares = halved(settings);
     // Each closure borrows what these hold: of a borrowed struct of borrows `join` passes nothing on.
-    let SearchedFor { picture, pyramid } = source;
-    let (listed1, luma1) = (one.picture, one.luma);
-    let (listed2, luma2) = (other.picture, other.luma);
+    let settings = searched.settings;
+    let shares = halved(settings);
+    let SearchedFor { picture, pyramid } = searched.source;
+    let (listed1, luma1) = (searched.first.picture, searched.first.luma);
+    let (listed2, luma2) = (searched.second.picture, searched.second.luma);
     let (theirs, ours) = join(
         rt,
         || -> Result<Field, NoMemory>
@@ -153,23 +159,25 @@ fn vectors_side_by_side<R: Threads + Sync, G: RowGate>(
 pub fn vectors_in_both<R: Threads + Sync, G: RowGate>(
     rt: &R,
     alloc: Global,
-    source: SearchedFor<'_>,
-    one: Reference<'_>,
-    other: Reference<'_>,
-    settings: &Settings,
+    searched: SearchedInTwo<'_>,
     gate: &G,
 ) -> Result<TwoFields, NoMemory>
-    requires settings { IsAccepted settings.now }
-    requires source { IsSearchedFor settings.now source }
-    requires one { IsReference (the_sequence settings.now) one }
-    requires other { IsReference (the_sequence settings.now) other }
-    ensures first { IfOk result (λ fs. IsFoundIn settings.now source.entry.picture.now one.entry fs.first) }
-    ensures second { IfOk result (λ fs. IsFoundIn settings.now source.entry.picture.now other.entry fs.second) }
+    requires { AreSearchedIn searched }
+    ensures first { IfOk result (λ fs. IsFoundIn searched.entry.settings.now searched.entry.source.picture.now
+        searched.entry.first fs.first) }
+    ensures second { IfOk result (λ fs. IsFoundIn searched.entry.settings.now searched.entry.source.picture.now
+        searched.entry.second fs.second) }
 {
+    let SearchedInTwo {
+        source,
+        first,
+        second,
+        settings,
+    } = searched;
     if settings.workers > 1 {
-        return vectors_side_by_side(rt, alloc, source, one, other, settings, gate);
+        return vectors_side_by_side(rt, alloc, searched, gate);
     }
-    let first = vectors_in(rt, alloc, source, one, settings, 1, gate)?;
-    let second = vectors_in(rt, alloc, source, other, settings, 1, gate)?;
+    let first = vectors_in(rt, alloc, source, first, settings, 1, gate)?;
+    let second = vectors_in(rt, alloc, source, second, settings, 1, gate)?;
     Ok(TwoFields { first, second })
 }

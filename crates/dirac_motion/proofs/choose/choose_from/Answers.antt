@@ -18,5 +18,10 @@ build-requires-clause-at_most_8192_down g c = omega (arith, height_within c.args
 pub vectors_in-requires-clause-workers : goal.vectors_in-requires-clause-workers
 vectors_in-requires-clause-workers g c κs within = (in_range c.args.settings.now c.requires.settings).workers
 
-pub vectors_in_both-requires-clause-other : goal.vectors_in_both-requires-clause-other
-vectors_in_both-requires-clause-other g c κs within = c.requires.references.second c.in-Some.second c.in-Some.is
+pub vectors_in_both-requires-after_bounds : goal.vectors_in_both-requires-after_bounds
+vectors_in_both-requires-after_bounds g c κs within = record {
+  accepted = c.requires.settings;
+  source = record { picture = c.requires.source; pyramid = c.in_ok-pyramid.ensures.value };
+  first = c.requires.references.first;
+  second = c.requires.references.second c.in-Some.second c.in-Some.is;
+}
