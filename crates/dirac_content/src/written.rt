@@ -11,7 +11,7 @@ use dirac_io::{Put, Sink, put_all};
 const MOST_BYTES_AT_ONCE: usize = 65_536;
 
 /// Writes a raw picture: the rows of Y from top to bottom, then U, then V, a byte a sample. `bytes` is a
-/// buffer for the bytes of a plane, whatever it holds.
+/// buffer for the bytes of a piece of a plane, whatever it holds.
 pub fn put_picture<K: Sink>(out: &mut K, picture: &Picture, bytes: &mut Vec<u8>) -> Put
     ensures all { result ≡ Put.All → Appends (K.taken out.old) (K.taken out.new) (raw picture.now) }
     ensures front { AppendsFront (K.taken out.old) (K.taken out.new) (raw picture.now) }

@@ -70,7 +70,7 @@ pub fn decode_stream_by<
     write_pictures(decode, &mut decoder, &mut row, source, out)
 }
 
-/// Writes the pictures of a stream that a new decoder gives; `row` is a buffer for the bytes of a plane.
+/// Writes the pictures of a stream that a new decoder gives; `row` is a buffer for bytes of a plane.
 fn write_pictures<
     S: Source,
     K: Sink,

@@ -16,7 +16,7 @@ pub struct Progress {
     pub refs: RefBuffer,
     /// The reconstructions that wait for delivery.
     pub delivery: Delivery,
-    /// A buffer for the bytes of a row.
+    /// A buffer for bytes of a plane.
     pub row: Vec<u8>,
 }
 

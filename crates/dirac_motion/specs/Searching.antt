@@ -1,5 +1,5 @@
 -- A picture whose blocks are searched for, and what is found in a reference.
--- Inner: only the proofs of this crate need it.
+-- Inner: for the proofs of this crate.
 use Rattle.std.specs.Prelude.{◌≡◌}
 use Rattle.dirac_common.specs.declared.picture.Picture.{Picture}
 use Rattle.dirac_types.specs.declared.settings.Settings.{Settings}

@@ -37,8 +37,8 @@ fn view<'a>(reference: Reference<'a>, field: &'a Field) -> RefView<'a>
 
 /// The block table of a picture with these references, whose luma is upconverted already.
 ///
-/// The gate is called before each row of superblocks of each stage of the search. With two workers or more two
-/// references are searched side by side.
+/// The gate is called before each row of superblocks of each stage of the search. With four workers or more two
+/// references are searched side by side, each by half of them; with fewer one after the other.
 pub fn choose_from<R: Threads + Sync, G: RowGate>(
     rt: &R,
     alloc: Global,

@@ -1,7 +1,7 @@
 #![tactic(auto)]
 
 //! The block table of an inter picture, from its references: the motion search in each of them, then the choice of
-//! modes and splits. What is made of a source or a reference for it is made once a picture.
+//! modes and splits. Pyramids and upconverted luma are made once a picture.
 
 mod choose;
 mod laws;

@@ -1,4 +1,4 @@
-ghost use Rattle.std.specs.Prelude.{◌≤◌, IfOk};
+ghost use Rattle.std.specs.Prelude.{◌≡◌, ◌+◌, ◌≤◌, IfOk};
 ghost use Rattle.std.specs.Thread.{IsSync};
 ghost use Rattle.dirac_types.specs.Settings.{IsAccepted};
 ghost use Rattle.dirac_sequence.specs.Written.{sequence_of as the_sequence};
@@ -87,6 +87,7 @@ struct Shares {
 fn halved(settings: &Settings) -> Shares
     requires settings { IsAccepted settings.now }
     requires at_least_2 { 2 ≤ settings.now.workers }
+    ensures all { result.first + result.second ≡ settings.now.workers }
     ensures first { (1 ≤ result.first) × (result.first ≤ 64) }
     ensures second { (1 ≤ result.second) × (result.second ≤ 64) }
 {
@@ -117,7 +118,7 @@ fn vectors_side_by_side<R: Threads + Sync, G: RowGate>(
     let SearchedFor { picture, pyramid } = searched.source;
     let (listed1, luma1) = (searched.first.picture, searched.first.luma);
     let (listed2, luma2) = (searched.second.picture, searched.second.luma);
-    let (theirs, ours) = join(
+    let (second, first) = join(
         rt,
         || -> Result<Field, NoMemory>
             requires { IsSync R.row × IsSync G.row × IsAccepted settings.now
@@ -150,12 +151,17 @@ fn vectors_side_by_side<R: Threads + Sync, G: RowGate>(
             vectors_in(rt, alloc, source, reference, settings, shares.first, gate)
         },
     );
-    let first = ours?;
-    let second = theirs?;
+    let first = first?;
+    let second = second?;
     Ok(TwoFields { first, second })
 }
 
-/// The vectors of a picture's blocks in two references: one after the other by one worker, side by side by more.
+/// The fewest workers by whom two references are searched side by side: two for each, so that a gate that holds a row
+/// sees another one of its reference come.
+const FEWEST_SIDE_BY_SIDE: u32 = 4;
+
+/// The vectors of a picture's blocks in two references: side by side by four workers or more, one after the other by
+/// fewer.
 pub fn vectors_in_both<R: Threads + Sync, G: RowGate>(
     rt: &R,
     alloc: Global,
@@ -174,10 +180,11 @@ pub fn vectors_in_both<R: Threads + Sync, G: RowGate>(
         second,
         settings,
     } = searched;
-    if settings.workers > 1 {
+    let workers = settings.workers;
+    if workers >= FEWEST_SIDE_BY_SIDE {
         return vectors_side_by_side(rt, alloc, searched, gate);
     }
-    let first = vectors_in(rt, alloc, source, first, settings, 1, gate)?;
-    let second = vectors_in(rt, alloc, source, second, settings, 1, gate)?;
+    let first = vectors_in(rt, alloc, source, first, settings, workers, gate)?;
+    let second = vectors_in(rt, alloc, source, second, settings, workers, gate)?;
     Ok(TwoFields { first, second })
 }

@@ -120,8 +120,8 @@ impl PushDecoder {
     /// each later call answers `Stopped`; none of them takes a byte.
     pub fn next(&mut self) -> Answer
         ensures gives { PushGives result self.old self.new }
-        // Which units were taken, that no picture could be given before the last of them, and that the format is that of
-        // the sequence opened last among them.
+        // Which units were taken, that no picture could be given before the last of them, and that the format is that
+        // of the sequence opened last among them.
         ensures takes { TakesUnits self.old self.new }
         ensures repeats { RepeatsAnswer result self.old self.new }
         ensures finished_stays { self.new.is_finished ≡ self.old.is_finished }

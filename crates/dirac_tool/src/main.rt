@@ -21,7 +21,8 @@ const NO_FILE: u8 = 12;
 const READ_AHEAD: usize = 65_536;
 
 // The longest piece of memory, in bytes, from whose freeing the C library learns: it takes pieces up to that length
-// from its own store from then on, and keeps there what is freed, up to twice as much.
+// from its own store from then on, and keeps there what is freed, up to twice as much. Where the environment sets its
+// thresholds, as `run` does, it learns nothing, and nothing is lost.
 const LEARNT_PIECE: usize = 31 << 20;
 
 fn main(rt: HostRuntime) -> ExitCode {

@@ -140,7 +140,8 @@ fn lists_thousand_units<R: Abort + Threads + Sync>(rt: &R, alloc: Global) -> Res
     Ok(())
 }
 
-// Encodes raw pictures without order, of that many bytes together, and compares sums of the stream and of what is shown.
+// Encodes raw pictures without order, of that many bytes together, and compares sums of the stream and of what is
+// shown.
 fn encodes<R: Abort + Threads + Sync>(
     rt: &R,
     alloc: Global,
