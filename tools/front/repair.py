@@ -5,8 +5,8 @@ import re
 
 from .mend import first_header, for_players, mend
 from .outputs import check_apart, check_stream_name, stream_output
-from .processes import Pipe, pieces
-from .program import FAULT, place
+from .processes import pieces
+from .program import FAULT, start
 from .refusal import Refusal
 from .resync import Lost, Search
 from .sources import open_stream, tell
@@ -60,7 +60,7 @@ def written(units):
 def first_refused(units):
     """The unit that the program refuses and why, or None."""
     stream = written(units)
-    pipe = Pipe([place(), "decode"], (stream[at : at + (1 << 20)] for at in range(0, len(stream), 1 << 20)))
+    pipe = start(["decode"], (stream[at : at + (1 << 20)] for at in range(0, len(stream), 1 << 20)))
     for _ in pieces(pipe):
         pass
     status, text = pipe.finish()
