@@ -1,4 +1,4 @@
-use crate::gates::{FIRST, HoldsRows, SECOND, THIRD};
+use crate::gates::{FIRST, HoldsEntry, HoldsRows, SECOND, THIRD};
 use dirac_common::{NoMemory, OpenGate, RowGate};
 use dirac_encode::{Encoded, encode_stream};
 use dirac_io::{MemSink, MemSource};
@@ -127,5 +127,25 @@ fn no_gate_is_passed_by_one_thread(rt: HostRuntime) -> Result<(), NoMemory> {
     let made = encoded(&rt, rt.alloc(), 8, 40, 1, &gate)?;
     assert!(rt; !gate.all_came());
     assert_eq!(rt; made.ended, Encoded::Done);
+    Ok(())
+}
+
+// A picture of one row of superblocks, searched in one stage. The third picture refers to the first, which is entry 0;
+// the one between them to both: while its row is held in one of them, that in the other one comes.
+#[test]
+fn four_workers_search_two_references_side_by_side(rt: HostRuntime) -> Result<(), NoMemory> {
+    let alloc = rt.alloc();
+    let mut settings = sized(8, 8);
+    settings.between = 1;
+    settings.pyramid = 0;
+    settings.precision = 0;
+    let alone = encoded_many(&rt, alloc, &settings, 3, &OpenGate)?;
+    settings.workers = 4;
+    let gate = HoldsEntry::new(1);
+    let made = encoded_many(&rt, alloc, &settings, 3, &gate)?;
+    assert!(rt; gate.next_came());
+    assert_eq!(rt; made.ended, Encoded::Done);
+    assert_eq!(rt; made.stream.taken(), alone.stream.taken());
+    assert_eq!(rt; made.shown.taken(), alone.shown.taken());
     Ok(())
 }

@@ -146,3 +146,39 @@ impl RowGate for HoldsEachCall {
         }
     }
 }
+
+/// A gate that holds one entry, of whatever row, until the next one comes, or the turns run out.
+#[derive(Drop)]
+pub struct HoldsEntry {
+    held: u64,
+    entries: AtomicU64,
+    came: AtomicBool,
+}
+
+impl HoldsEntry {
+    /// A gate that holds this entry, counted from 0.
+    pub fn new(held: u64) -> HoldsEntry {
+        HoldsEntry {
+            held,
+            entries: AtomicU64::new(0),
+            came: AtomicBool::new(false),
+        }
+    }
+
+    /// The entry that was held saw the next one come.
+    pub fn next_came(&self) -> bool {
+        self.came.load(SeqCst)
+    }
+}
+
+impl RowGate for HoldsEntry {
+    fn enter(&self, _row: u32) {
+        let own = self.entries.fetch_add(1, SeqCst);
+        if own != self.held {
+            return;
+        }
+        if comes(TURNS, || own.wrapping_add(1) < self.entries.load(SeqCst)) {
+            self.came.store(true, SeqCst);
+        }
+    }
+}
