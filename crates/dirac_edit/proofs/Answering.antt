@@ -1,8 +1,8 @@
 -- What a cut answers, of whatever is known of its input.
-use Rattle.std.proofs.Common.{◌≡◌, ◌∙◌, ℕ, List, Option, None, Some, Result, Ok, Err, refl, sym, ap, subst}
+use Rattle.std.proofs.Common.{◌≡◌, ◌∙◌, ℕ, List, [], Option, None, Some, Result, Ok, Err, refl, sym, ap, subst}
 use Rattle.std.specs.Prelude.{IfSome, OnOk}
 use Rattle.std.specs.Io.KnownBytes.{Appends}
-use Rattle.std.proofs.KnownBytes.{Keeps-refl}
+use Rattle.std.proofs.KnownBytes.{Appends-nil, Keeps-refl}
 use Rattle.dirac_io.specs.declared.sink.Unwritten.{Unwritten}
 use Rattle.dirac_io.specs.declared.sink.Unwritten.TheVariants as unwritten
 use Rattle.dirac_io.specs.Writing.{AppendsFront}
@@ -16,7 +16,10 @@ use Rattle.dirac_edit.specs.declared.answers.Edited.{Edited}
 use Rattle.dirac_edit.specs.declared.answers.Edited.TheVariants as edited
 use Rattle.dirac_edit.specs.Edits.{AnswersEdit, IsCutBy, ShowsPart, cut_refusal, written_unless_refused}
 use Rattle.dirac_edit.specs.Steps.{IsCutPart, RefusesCut, StopsReading, ended_as}
-use Rattle.dirac_content.proofs.Rows.{nothing_yet}
+
+-- nothing was written yet
+pub nothing_yet : (taken : Option (List ℕ)) (all : List ℕ) → AppendsFront taken taken all
+nothing_yet taken all = ([], all, refl, Appends-nil taken)
 
 -- something is shown by all bytes
 pub some_shown : EachHasACut → (bytes : List ℕ) → (o : Outcome) × IsShown bytes o

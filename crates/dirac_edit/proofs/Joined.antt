@@ -19,10 +19,9 @@ use Rattle.dirac_edit.specs.declared.answers.Edited.TheVariants as edited
 use Rattle.dirac_edit.specs.Edits.{AnswersEdit, IsAnswerOfJoining, IsJoinedBy, JoinedShowsSame, join_refusal, written_unless_refused}
 use Rattle.dirac_edit.specs.Kept.{kept_of}
 use Rattle.dirac_edit.specs.Steps.{IsChecked, IsReason, IsStreamRefused, IsJoinable, RefusesJoin, StopsReading, ended_as}
-use Rattle.dirac_edit.proofs.Answering.{ended_by, some_shown, stopped_by}
+use Rattle.dirac_edit.proofs.Answering.{ended_by, nothing_yet, some_shown, stopped_by}
 use Rattle.dirac_edit.proofs.Checking.{ends_well, faultless}
 use Rattle.dirac_edit.proofs.Keeping.{all_kept}
-use Rattle.dirac_content.proofs.Rows.{nothing_yet}
 
 -- ---- what was read
 
