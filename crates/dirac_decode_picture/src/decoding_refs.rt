@@ -82,9 +82,22 @@ impl DecodingRefs {
         requires { All CanBeDoubled self.old }
         ensures { self.new ≡ self.old }
     {
-        if let Some(first) = header.ref1 {
-            self.refs.keep_halves(alloc, first, header.ref2);
-        }
+        self.refs.keep_halves(alloc, header.ref1, header.ref2);
+    }
+
+    /// Keeps half samples of the pictures that a coded picture refers to, and of no other, where `double` makes those
+    /// that aren't kept yet; an intra picture changes nothing.
+    pub fn keep_named_halves_by<F: Fn(&Picture) -> Result<Halves, NoMemory>>(
+        &mut self,
+        double: &F,
+        header: &PictureHeader,
+    )
+        requires doubles { DoublesPictures (F.pre double.now) (F.post double.now) }
+        requires can_be_doubled { All CanBeDoubled self.old }
+        ensures { self.new ≡ self.old }
+    {
+        self.refs
+            .keep_named_halves_by(double, header.ref1, header.ref2);
     }
 
     /// Keeps half samples of the pictures of these numbers, and of no other, where `double` makes those that aren't

@@ -18,7 +18,7 @@ use dirac_parameters::Transform;
 use dirac_picture::{CodedPicture, CodedResidual, read_picture_by};
 use dirac_refs::{RefBuffer, reference_of};
 use dirac_sequence_header::Sequence;
-use dirac_slices::{read_planes_rows, rebuild_rows, workers_for};
+use dirac_slices::{read_planes_rows, rebuild_rows};
 use std::alloc::Global;
 use std::marker::Sync;
 use std::thread::Threads;
@@ -68,11 +68,7 @@ pub(crate) fn decode_by_rows<R: Threads + Sync, G: RowGate>(
         refs.new }
 {
     let coded = read_by_rows(crew, alloc, asked, refs.list())?;
-    let doublers = Crew::new(
-        crew.rt,
-        workers_for(asked.sequence, crew.workers),
-        crew.gate,
-    );
+    let doublers = crew.for_picture_of(asked.sequence);
     keep_named_halves(&doublers, alloc, &coded.header, refs);
     let (rt, workers, gate) = (crew.rt, crew.workers, crew.gate);
     let picture = rebuild_rows(

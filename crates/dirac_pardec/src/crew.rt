@@ -1,6 +1,7 @@
 ghost use Rattle.std.specs.Prelude.{◌≡◌, ◌<◌, ◌≤◌, true};
 
 use dirac_sequence_header::Sequence;
+use dirac_slices::workers_for;
 
 /// Workers that share the work on a picture or on pictures, and the gate that each passes before a row.
 #[derive(Drop)]
@@ -18,6 +19,11 @@ impl<'a, R, G> Crew<'a, R, G> {
         requires { (1 ≤ workers) × (workers ≤ 64) }
     {
         Crew { rt, workers, gate }
+    }
+
+    /// Those of them that share the work on a picture of this sequence.
+    pub(crate) fn for_picture_of(&self, sequence: &Sequence) -> Crew<'a, R, G> {
+        Crew::new(self.rt, workers_for(sequence, self.workers), self.gate)
     }
 }
 

@@ -1,6 +1,6 @@
-//! Half samples of reference pictures, made by workers: a plane each, one picture after another, so that at most three
-//! workers are busy.
-ghost use Rattle.std.specs.Prelude.{◌≡◌, ℕ, ◌∷◌, ◌<◌, length, IfOk};
+//! Half samples of reference pictures, made by workers: a plane each, one picture after another, so that three workers
+//! at most are at work.
+ghost use Rattle.std.specs.Prelude.{◌≡◌, ℕ, length, IfOk};
 ghost use Rattle.std.specs.List.{All};
 ghost use Rattle.std.specs.Thread.{IsSync};
 ghost use Rattle.dirac_upconvert.specs.SubSamples.{Up};
@@ -13,7 +13,7 @@ use dirac_common::{NoMemory, Picture, Plane, RowGate};
 use dirac_decode_picture::DecodingRefs;
 use dirac_header::PictureHeader;
 use dirac_refs::Halves;
-use dirac_rows::map_rows;
+use dirac_rows::{map_rows, three_of};
 use dirac_upconvert::{UpPlane, upconvert};
 use std::alloc::Global;
 use std::marker::Sync;
@@ -38,17 +38,8 @@ fn up_at(alloc: Global, picture: &Picture, plane: u32) -> Result<UpPlane, NoMemo
     upconvert(alloc, plane_at(picture, plane))
 }
 
-/// Takes the first of these.
-fn take_first(planes: &mut Vec<UpPlane>) -> UpPlane
-    requires { 0 < length planes.old.items }
-    ensures { planes.old.items ≡ result ∷ planes.new.items }
-{
-    planes.remove(0)
-}
-
 /// The planes Y, U, V.
-#[tactic(auto, using(crate::proofs::Three::three_planes))]
-fn put_together(mut planes: Vec<UpPlane>) -> Halves
+fn put_together(planes: Vec<UpPlane>) -> Halves
     requires { length planes.items ≡ 3 }
     ensures { (f : ℕ → Up) → AnswerRows (λ r u. u ≡ f r) 3 planes.items → result ≡ record {
       y = f 0;
@@ -56,9 +47,7 @@ fn put_together(mut planes: Vec<UpPlane>) -> Halves
       v = f 2;
     } }
 {
-    let y = take_first(&mut planes);
-    let u = take_first(&mut planes);
-    let v = take_first(&mut planes);
+    let (y, u, v) = three_of(planes);
     Halves { y, u, v }
 }
 
@@ -75,7 +64,7 @@ fn halves_by_rows<R: Threads + Sync, G: RowGate>(
         requires { CanBeDoubled picture.now }
         ensures { IfOk result (λ u. u ≡ up_of_number picture.entry.now plane) }
     { up_at(alloc, picture, plane) };
-    let planes = map_rows(crew.rt, alloc, 3, crew.workers.min(3), crew.gate, &work)?;
+    let planes = map_rows(crew.rt, alloc, 3, crew.workers, crew.gate, &work)?;
     Ok(put_together(planes))
 }
 
@@ -107,11 +96,9 @@ pub(crate) fn keep_named_halves<R: Threads + Sync, G: RowGate>(
     requires { All CanBeDoubled refs.old }
     ensures { refs.new ≡ refs.old }
 {
-    let Some(first) = header.ref1 else {
-        return;
-    };
-    match header.ref2 {
-        None => keep_halves_by_rows(crew, alloc, &[first], refs),
-        Some(second) => keep_halves_by_rows(crew, alloc, &[first, second], refs),
-    }
+    let double = |picture: &Picture| -> Result<Halves, NoMemory>
+        requires { IsSync R.row × IsSync G.row × CanBeDoubled picture.now }
+        ensures { IfOk result (AreHalves picture.now) }
+    { halves_by_rows(crew, alloc, picture) };
+    refs.keep_named_halves_by(&double, header);
 }

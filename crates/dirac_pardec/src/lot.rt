@@ -92,8 +92,7 @@ fn decode_units<R: Threads + Sync, G: RowGate>(
         };
         decode_alone(alloc, asked)
     };
-    let workers = crew.workers.min(last + 1);
-    map_rows(crew.rt, alloc, last + 1, workers, crew.gate, &work)
+    map_rows(crew.rt, alloc, last + 1, crew.workers, crew.gate, &work)
 }
 
 /// Decodes the intra pictures among these units side by side, from the one with this parse code and payload on. None

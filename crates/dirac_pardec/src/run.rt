@@ -128,8 +128,7 @@ fn decode_units<R: Threads + Sync, G: RowGate>(
             refs,
         )
     };
-    let workers = crew.workers.min(last + 1);
-    map_rows(crew.rt, alloc, last + 1, workers, crew.gate, &work)
+    map_rows(crew.rt, alloc, last + 1, crew.workers, crew.gate, &work)
 }
 
 /// A picture that is decoded beside those behind it among these units, which are kept until they are asked for. None
@@ -156,7 +155,8 @@ pub(crate) fn decode_run<R: Threads + Sync, G: RowGate>(
         return Ok(None);
     }
     let numbers = numbers_named(alloc, pictures.as_slice())?;
-    keep_halves_by_rows(crew, alloc, numbers.as_slice(), refs);
+    let doublers = crew.for_picture_of(asked.sequence);
+    keep_halves_by_rows(&doublers, alloc, numbers.as_slice(), refs);
     let ahead = decode_units(
         crew,
         alloc,

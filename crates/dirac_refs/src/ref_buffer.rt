@@ -76,8 +76,9 @@ impl RefBuffer {
         }
     }
 
-    /// Keeps the half samples of the pictures of these numbers, and of no other picture. The list stays as it is.
-    pub fn keep_halves(&mut self, alloc: Global, first: u32, second: Option<u32>)
+    /// Keeps the half samples of the pictures of these numbers, and of no other picture; without a first number nothing
+    /// changes. The list stays as it is.
+    pub fn keep_halves(&mut self, alloc: Global, first: Option<u32>, second: Option<u32>)
         requires { All CanBeDoubled self.old }
         ensures { self.new ≡ self.old }
     {
@@ -85,9 +86,27 @@ impl RefBuffer {
             requires { CanBeDoubled picture.now }
             ensures { IfOk result (AreHalves picture.now) }
         { halves_of(alloc, picture) };
+        self.keep_named_halves_by(&double, first, second);
+    }
+
+    /// Keeps the half samples of the pictures of these numbers, and of no other picture; `double` makes those that
+    /// aren't kept yet. Without a first number nothing changes. The list stays as it is.
+    pub fn keep_named_halves_by<F: Fn(&Picture) -> Result<Halves, NoMemory>>(
+        &mut self,
+        double: &F,
+        first: Option<u32>,
+        second: Option<u32>,
+    )
+        requires doubles { DoublesPictures (F.pre double.now) (F.post double.now) }
+        requires can_be_doubled { All CanBeDoubled self.old }
+        ensures { self.new ≡ self.old }
+    {
+        let Some(first) = first else {
+            return;
+        };
         match second {
-            None => self.keep_halves_by(&double, &[first]),
-            Some(second) => self.keep_halves_by(&double, &[first, second]),
+            None => self.keep_halves_by(double, &[first]),
+            Some(second) => self.keep_halves_by(double, &[first, second]),
         }
     }
 

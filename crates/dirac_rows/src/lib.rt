@@ -8,8 +8,10 @@ mod map;
 mod ranges;
 mod rule;
 mod shared;
+mod three;
 mod view;
 
 pub use claims::{Claimed, RowClaims, RowSeat};
 pub use map::map_rows;
 pub use ranges::split_rows;
+pub use three::{take_first, three_of};

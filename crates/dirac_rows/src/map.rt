@@ -128,8 +128,9 @@ fn claimed_by_all<
     (seat, put_together(ours, theirs))
 }
 
-/// The answers of `work` on each row below `rows`, in the order of the rows. So many workers claim the rows one by one,
-/// and each passes the gate before it works on a row. Where a thread can't be had, its part is done by the caller.
+/// The answers of `work` on each row below `rows`, in the order of the rows. So many workers, but no more than there are
+/// rows, claim the rows one by one, and each passes the gate before it works on a row. Where a thread can't be had, its
+/// part is done by the caller.
 pub fn map_rows<
     R: Threads + Sync,
     T: Send + Drop,
@@ -140,6 +141,7 @@ pub fn map_rows<
     requires work { (r : ℕ) → r < rows → F.pre work.now r }
     ensures { IfOk result (λ v. AnswerRows (λ r x. F.post work.now r (Ok x)) rows v.items) }
 {
+    let workers = workers.min(rows).max(1);
     let (claims, seat) = RowClaims::try_new(alloc, rows, workers)?;
     let (seat, found) = claimed_by_all(rt, alloc, &claims, seat, workers, gate, work);
     let found = found?;

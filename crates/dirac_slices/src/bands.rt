@@ -11,7 +11,7 @@ use dirac_coeffs::Site;
 use dirac_common::{Component, NoMemory, RowGate};
 use dirac_header::Transform;
 use dirac_picture::{Chain, FoundPlanes, PlaneBands, PlaneSize, read_chain, woven};
-use dirac_rows::map_rows;
+use dirac_rows::{map_rows, take_first};
 use dirac_sequence_header::Sequence;
 use std::alloc::Global;
 use std::marker::Sync;
@@ -69,14 +69,6 @@ pub(crate) fn read_rows<R: Threads + Sync, G: RowGate>(
         ensures { IfOk result (IsOrientationAt sequence.entry.now transform.entry.now found.entry.now row) }
     { read_row(alloc, found, transform, sequence, row) };
     map_rows(rt, alloc, 12, workers, gate, &work)
-}
-
-/// Takes the first of these.
-fn take_first(rows: &mut Vec<Option<Chain>>) -> Option<Chain>
-    requires { 0 < length rows.old.items }
-    ensures { rows.old.items ≡ result ∷ rows.new.items }
-{
-    rows.remove(0)
 }
 
 /// The bands of a plane from those of LL, HL, LH and HH; none where one of them is refused.

@@ -26,7 +26,7 @@ pub(crate) fn is_small(sequence: &Sequence) -> bool
 pub fn workers_for(sequence: &Sequence, workers: u32) -> u32
     requires { (1 ≤ workers) × (workers ≤ 64) }
     ensures value { result ≡ shared_by sequence.now workers }
-    ensures some { (1 ≤ result) × (result ≤ workers) }
+    ensures from_1_to_workers { (1 ≤ result) × (result ≤ workers) }
 {
     if is_small(sequence) {
         return workers.min(2);
