@@ -4,7 +4,7 @@ ghost use Rattle.std.specs.Thread.{IsSync};
 ghost use Rattle.dirac_io.specs.Faults.{Rose};
 ghost use Rattle.dirac_content.specs.Leaving.{IsBrokenOff, IsFrontOfRead};
 ghost use Rattle.dirac_decode_picture.specs.Payload.{CanBeDecoded, DecodesPayload};
-ghost use Rattle.dirac_decode.specs.Decoded.{IfDone, IfTally, IsDecodedStream};
+ghost use Rattle.dirac_decode.specs.Decoded.{IfDone, IfTally, IsDecodedStream, IsFrontOfMore};
 
 use crate::asked::Asked;
 use crate::at_hand::decode_at_hand;
@@ -54,9 +54,14 @@ pub fn decode_rows<R: Threads + Sync, S: Source, K: Sink, G: RowGate>(
 {
     let crew = Crew::new(rt, workers, gate);
     let lot = Lot::new();
+    let pictures = pictures_ahead(workers);
+    if pictures == 0 {
+        return decode_over(&crew, &lot, alloc, source, out);
+    }
     let Finished { answer, source } = decode_reading_ahead::<R, S, K, G, Brand>(
         &crew,
         &lot,
+        pictures,
         alloc,
         Lent { source },
         out,
@@ -76,11 +81,11 @@ struct Finished<'a, S> {
 /// The most pictures that are read ahead.
 const MOST_PICTURES_AHEAD: u32 = 8;
 
-/// How many pictures are read ahead for so many workers: one where they are never decoded side by side, since one
+/// How many pictures are read ahead for so many workers: none where pictures are never decoded side by side, since one
 /// worker gains nothing by it, and for sixteen even eight pictures are too few.
 fn pictures_ahead(workers: u32) -> u32 {
     if workers == 1 || workers >= 2 * MOST_PICTURES_AHEAD {
-        return 1;
+        return 0;
     }
     (2 * workers).min(MOST_PICTURES_AHEAD)
 }
@@ -88,10 +93,53 @@ fn pictures_ahead(workers: u32) -> u32 {
 /// The most bytes that are read ahead.
 const MOST_AHEAD: usize = 1 << 25;
 
-/// Decodes a whole stream, as `decode_rows`, its units read ahead.
+/// Decodes a whole stream, as `decode_rows`, with what was read ahead of it.
+fn decode_over<R: Threads + Sync, S: Source, K: Sink, G: RowGate>(
+    crew: &Crew<R, G>,
+    lot: &Lot,
+    alloc: Global,
+    source: &mut S,
+    out: &mut K,
+) -> Decoded
+    ensures decoded { IfSome (S.held source.old)
+        (λ bytes. IsDecodedStream bytes result (K.taken out.old) (K.taken out.new)) }
+    // Where a read failed, just what leaves while the units that were read whole are taken was written.
+    ensures broken_off { result ≡ Decoded.ReadFault → IfSome (S.held source.old) (λ bytes. IsBrokenOff bytes
+        (S.held source.new) (K.taken out.old) (K.taken out.new)) }
+    // Whatever front of the bytes left is read too, what was written is a front of what the bytes read then show.
+    ensures front_of_more { IfSome (S.held source.old) (λ bytes. IsFrontOfMore bytes (S.held source.new)
+        (K.taken out.old) (K.taken out.new)) }
+    ensures front_of_read { IfSome (S.held source.old) (λ bytes. IsFrontOfRead bytes (S.held source.new)
+        (K.taken out.old) (K.taken out.new)) }
+    ensures whole { IfDone result (IsAtEnd (S.held source.new)) }
+    ensures at_most_8_references { IfTally result (λ tally. tally.references ≤ MOST_REFERENCES) }
+    ensures read { result ≡ Decoded.ReadFault → Rose (S.faults source.old) (S.faults source.new) }
+    ensures write { result ≡ Decoded.WriteFault → Rose (K.faults out.old) (K.faults out.new) }
+    ensures reads { S.faults source.old ≤ S.faults source.new }
+    ensures writes { K.faults out.old ≤ K.faults out.new }
+{
+    let decode = |alloc: Global, payload: &[u8], code: u8, sequence: &Sequence, refs: &mut DecodingRefs| -> Result<
+        DecodedPicture,
+        Stop,
+    >
+        requires { IsSync R.row × IsSync G.row × CanBeDecoded code sequence.now refs.old }
+        ensures { DecodesPayload payload.now code sequence.now refs.old result refs.new }
+    {
+        let asked = Asked {
+            payload,
+            code,
+            sequence,
+        };
+        decode_at_hand(crew, lot, alloc, asked, refs)
+    };
+    decode_stream_by(&decode, alloc, source, out)
+}
+
+/// Decodes a whole stream, as `decode_rows`, its units read ahead with so many pictures.
 fn decode_reading_ahead<'a, R: Threads + Sync, S: Source, K: Sink, G: RowGate, B: Begun>(
     crew: &Crew<R, G>,
     lot: &'a Lot,
+    pictures: u32,
     alloc: Global,
     lent: Lent<'a, S>,
     out: &mut K,
@@ -115,26 +163,12 @@ fn decode_reading_ahead<'a, R: Threads + Sync, S: Source, K: Sink, G: RowGate, B
     ensures reads { S.faults lent.entry.source.now ≤ S.faults result.source.now }
     ensures writes { K.faults out.old ≤ K.faults out.new }
 {
-    let decode = |alloc: Global, payload: &[u8], code: u8, sequence: &Sequence, refs: &mut DecodingRefs| -> Result<
-        DecodedPicture,
-        Stop,
-    >
-        requires { IsSync R.row × IsSync G.row × CanBeDecoded code sequence.now refs.old }
-        ensures { DecodesPayload payload.now code sequence.now refs.old result refs.new }
-    {
-        let asked = Asked {
-            payload,
-            code,
-            sequence,
-        };
-        decode_at_hand(crew, lot, alloc, asked, refs)
-    };
     let plan = Plan {
-        pictures: pictures_ahead(crew.workers) as usize,
+        pictures: pictures as usize,
         most: MOST_AHEAD,
     };
     let mut ahead = Ahead::<S, Lot, B>::new(alloc, lent, lot, plan);
-    let answer = decode_stream_by(&decode, alloc, &mut ahead, out);
+    let answer = decode_over(crew, lot, alloc, &mut ahead, out);
     Finished {
         answer,
         source: ahead.into_source(),
