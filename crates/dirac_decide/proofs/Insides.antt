@@ -9,7 +9,7 @@ use Rattle.dirac_common.specs.declared.formats.Vector.{Vector}
 use Rattle.dirac_vectors.specs.Neighbours.{IsShort}
 use Rattle.dirac_vectors.specs.Predictions.{IsShortVector}
 use Rattle.dirac_costs.specs.Least.{first_least}
-use Rattle.dirac_costs.proofs.Least.{first_least_min, first_least_more}
+use Rattle.dirac_costs.proofs.Least.{first_least_more}
 use Rattle.dirac_inside.specs.Inside.{all_below, vector_times}
 use Rattle.dirac_inside.specs.Ranges.{AreBlocks, IsBounded, IsNear, is_in}
 use Rattle.dirac_inside.specs.declared.range.VectorRange.{VectorRange}
@@ -101,12 +101,6 @@ first_has P cost (v ∷ vs) none all = least_has v vs (all 0 v (omega arith)) (�
     | inl less ↦ rw less (least_has x xs (rest 0 x (omega arith)) (λ k e l. rest (suc k) e (omega arith)))
     | inr more ↦ rw more (least_has w xs is (λ k e l. rest (suc k) e (omega arith)))
   ]
-
--- the first costs no more than any
-pub first_least_of : (cost : Vector → ℕ) (vs : List Vector) → All (λ w. cost (first_or_none cost vs) ≤ cost w) vs
-first_least_of cost [] k e l = absurd (omega arith)
-first_least_of cost (v ∷ vs) zero e l = (first_least_min cost v vs).0
-first_least_of cost (v ∷ vs) (suc k) e l = (first_least_min cost v vs).1 k e (omega arith)
 
 -- the blocks of what can be decided from
 pub are_blocks : (d : Deciding) → IsDeciding d → AreBlocks (decided_blocks d)

@@ -19,8 +19,5 @@ mod superblock;
 mod table;
 
 pub use inputs::RefView;
-pub use laws::{
-    best_modes_cost_least, best_splits_cost_least, best_vectors_cost_least,
-    decided_tables_are_lawful,
-};
+pub use laws::decided_tables_are_lawful;
 pub use table::{decide, decide_by_workers};

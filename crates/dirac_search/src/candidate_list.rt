@@ -1,4 +1,4 @@
-ghost use Rattle.std.specs.Prelude.{◌≡◌, ◌<◌, [], ◌∷◌, ◌++◌, length, slice_index_or, IfOk};
+ghost use Rattle.std.specs.Prelude.{◌≡◌, ◌<◌, [], ◌∷◌, ◌++◌, length, slice_index_or, IfOk, OnErr};
 ghost use Rattle.dirac_search.specs.Candidates.{no_motion};
 
 use dirac_common::{NoMemory, Vector};
@@ -34,7 +34,8 @@ impl CandidateList {
 
     /// Appends a candidate.
     pub fn push(&mut self, vector: Vector) -> Result<(), NoMemory>
-        ensures { IfOk result (λ _. self.new ≡ self.old ++ vector ∷ []) }
+        ensures pushed { IfOk result (λ _. self.new ≡ self.old ++ vector ∷ []) }
+        ensures kept { OnErr result (self.new ≡ self.old) }
     {
         self.list.push(vector)?;
         Ok(())

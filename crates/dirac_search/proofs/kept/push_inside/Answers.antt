@@ -11,7 +11,7 @@ loop-k-preserved c =
     let list = c.args.list.now in
     elim c.if-has.branch [
       | then-has+in_ok-push w ↦
-          w.kept-is ∙ w.in_ok-push.ensures
+          w.kept-is ∙ w.in_ok-push.ensures.pushed
           ∙ filter_more (λ v. is_in c.args.range (vector_times c.args.count v)) list c.loop-k.kept c.loop-k.k (c.loop-k.k + 1) no_motion c.at-vector.result c.loop-k.invariant (omega (arith, c.len-k-end.ensures)) refl c.at-vector.ensures
           (sym c.has.ensures ∙ w.if-has.true)
       | else-has w ↦
