@@ -28,7 +28,7 @@ pub use Rattle.dirac_synthesis.specs.Zeros.{zeros}
 abbrev pub width_of : Sequence → Component → ℕ
 width_of s component = plane_width s component
 
--- its rows
+-- the rows of a plane of a sequence
 abbrev pub height_of : Sequence → Component → ℕ
 height_of s component = plane_height s component
 

@@ -64,7 +64,7 @@ LastIsFlushed =
     (state : StreamState) (unit_place : UnitPlace) (units : List UnitText) (end : Option Fault) → AreOfOneSequence units
     → (outcome state unit_place units end).shown ≡ flushed_behind state.waiting (pushed state units)
 
--- a course between sequences
+-- a state between sequences
 pub record IsBetween (state : StreamState) : Type 0 where
   pub opened : state.opened ≡ None
   pub first : state.first ≡ None

@@ -40,7 +40,7 @@ abbrev pub accepted_on : UnitText → (StreamState → List UnitText) → Result
 accepted_on unit rest (Ok m) = unit ∷ rest m.state
 accepted_on unit rest (Err refusal) = []
 
--- those among these units, from a course on
+-- the units among these that are accepted, from this state of the stream on
 unfoldable pub accepted : StreamState → List UnitText → List UnitText
 accepted state [] = []
 accepted state (unit ∷ units) =

@@ -30,7 +30,7 @@ pub record StreamState : Type 0 where
 abbrev pub stream_begun : StreamState
 stream_begun = record { opened = None; first = None; list = []; waiting = []; most = 0 }
 
--- the course behind a unit, and the pictures that it made leave, in order
+-- the state behind a unit, and the pictures that it made leave, in order
 pub record StreamStep : Type 0 where
   pub state : StreamState
   pub gone : List Picture
@@ -109,6 +109,6 @@ content state code payload =
 abbrev pub passed : StreamState → ℕ → StreamStep
 passed state code = if code == END_OF_SEQUENCE then ended state else staying state
 
--- the content of one unit: where it brings the course, or its refusal, placed from the unit's first byte
+-- the content of one unit: the state that it brings, or its refusal, placed from the unit's first byte
 unfoldable pub unit_step : StreamState → ℕ → List ℕ → Result StreamStep Refusal
 unit_step state code payload = if fields_are_read code then content state code payload else Ok (passed state code)

@@ -31,7 +31,7 @@ const NUMBERED_LENGTH: usize = PARSE_INFO_LENGTH + 4;
 struct Latest<'a> {
     header: &'a [u8],
     first: u32,
-    // its greatest key
+    // the greatest key of its pictures
     high: u32,
 }
 
@@ -62,7 +62,7 @@ impl<'a> Latest<'a> {
         }
     }
 
-    /// The same with this greatest key.
+    /// The latest header with this greatest key.
     fn raised(self, high: u32) -> Latest<'a>
         ensures { result ≡ record { header = self.entry.header; first = self.entry.first; high = high } }
     {

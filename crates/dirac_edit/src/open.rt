@@ -25,7 +25,7 @@ pub(crate) fn first_open(
     Ok(None)
 }
 
-/// The first one of a sequence.
+/// The first open unit of a sequence.
 fn first_open_in(alloc: Global, pictures: &[HeldPicture<'_>]) -> Result<Option<u64>, NoMemory>
     ensures { IfOk result (λ found. found ≡ first_open_of [] pictures.now) }
 {

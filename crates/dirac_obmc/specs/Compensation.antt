@@ -35,11 +35,11 @@ ratio_of component.Y ratio = 1
 ratio_of component.U ratio = ratio
 ratio_of component.V ratio = ratio
 
--- across
+-- how many luma samples one of this plane stands for, across
 abbrev pub across_ratio : Compensation → ℕ
 across_ratio m = ratio_of m.component (ratio_across m.chroma)
 
--- down
+-- how many luma samples one of this plane stands for, down
 abbrev pub down_ratio : Compensation → ℕ
 down_ratio m = ratio_of m.component (ratio_down m.chroma)
 
@@ -47,15 +47,15 @@ down_ratio m = ratio_of m.component (ratio_down m.chroma)
 abbrev pub x_length : Compensation → ℕ
 x_length m = m.prediction.grid.xblen / across_ratio m
 
--- and down
+-- how many samples of this plane a block has down
 abbrev pub y_length : Compensation → ℕ
 y_length m = m.prediction.grid.yblen / down_ratio m
 
--- how many of them lie between the starts of two blocks that stand side by side
+-- how many samples of this plane lie between the starts of two blocks that stand side by side
 abbrev pub x_separation : Compensation → ℕ
 x_separation m = m.prediction.grid.xbsep / across_ratio m
 
--- and of two that stand one below the other
+-- how many samples of this plane lie between the starts of two blocks that stand one below the other
 abbrev pub y_separation : Compensation → ℕ
 y_separation m = m.prediction.grid.ybsep / down_ratio m
 
@@ -74,7 +74,7 @@ moved_sample m up v x y =
     (position m.prediction.precision (across_ratio m) x v.x)
     (position m.prediction.precision (down_ratio m) y v.y)
 
--- the same of the second reference; no block has one where there is none
+-- what a block with vector v takes from the second reference for the sample in column x of row y; 0 where there is none
 abbrev pub second_sample : Compensation → Option Up → Vector → ℕ → ℕ → ℤ
 second_sample m None v x y = pos 0
 second_sample m (Some up) v x y = moved_sample m up v x y
@@ -144,7 +144,7 @@ pub record IsPredictable (m : Compensation) : Type 0 where
   pub second : ForSome m.up2 (λ u. (u.width ≡ m.width) × (u.height ≡ m.height))
   pub two : m.blocks.refs ≡ 2 → IsSome m.up2
 
--- the same, with the limits of a plane's size, which every upconverted plane keeps
+-- what a plane is predicted with, and the limits of its size, which every upconverted plane keeps
 pub record IsCompensation (m : Compensation) : Type 0 where
   pub grid : IsTrue (is_grid m.chroma m.prediction.grid)
   pub precision : m.prediction.precision ≤ 3

@@ -29,6 +29,6 @@ SamplesPredictSamples =
     (m : Compensation) → IsCompensation m → IsOfSamples m → (x y : ℕ) → x < m.width → y < m.height
     → IsSample (predicted_at m x y)
 
--- and so is each value of a plane that is
+-- each value of the prediction of a plane from references of samples is a sample
 abbrev pub PlanesOfSamples : Type 0
 PlanesOfSamples = (m : Compensation) → IsCompensation m → IsOfSamples m → All IsSample (predicted_plane m).values

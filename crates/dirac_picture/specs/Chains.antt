@@ -28,7 +28,7 @@ pub record AreWhole (t : Transform) (sites : List (Option Found)) : Type 0 where
   pub count : length sites ≡ band_count t.depth
   pub indices : All (λ x. IfSome x (λ s. IsIndex s.index)) sites
 
--- those that stand from the first place to the second
+-- the blocks of a plane's bands, found from the first place to the second
 pub record AreSitesOf (t : Transform) (c : Cursor) (sites : List (Option Found)) (d : Cursor) : Type 0 where
   pub whole : AreWhole t sites
   pub each : AreSites c sites d
@@ -39,7 +39,7 @@ sites_among found component.Y = found.y.items
 sites_among found component.U = found.u.items
 sites_among found component.V = found.v.items
 
--- those of each plane are whole
+-- the blocks that were found of each plane are those of all its bands
 abbrev pub AreWholePlanes : Transform → FoundPlanes → Type 0
 AreWholePlanes t found = (component : Component) → AreWhole t (sites_among found component)
 

@@ -18,7 +18,7 @@ pub record IsWritableBand (layout : BandLayout) (b : CodedBand) : Type 0 where
   pub zero : is_zero_band b.table.values ≡ true → b.index ≡ 0
   pub zeros : is_zero_band b.table.values ≡ true → b.indices ≡ all_equal layout 0
 
--- those of a plane of this size, with these transform parameters
+-- the bands of a plane of this size, with these transform parameters, can each be written
 abbrev pub AreWritable : Transform → ℕ → ℕ → List CodedBand → Type 0
 AreWritable t width height bands =
     (n : ℕ) (b : CodedBand) → slice_get bands n ≡ Some b → IsWritableBand (layout_of t width height n) b

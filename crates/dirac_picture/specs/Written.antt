@@ -57,7 +57,7 @@ HasSpelledTable index precision (Some m) bits =
     SpelledBehind (blocks m.blocks.across m.blocks.down m.blocks.refs) m.blocks
     (up_to_byte (bits ++ prediction_bits bits index precision)) (with_table index precision m.blocks bits)
 
--- with those of a picture's motion behind them, if it has any
+-- these bits with those of a picture's motion behind them, if it has any
 abbrev pub with_motion_by : ℕ → ℕ → Option CodedMotion → List Bool → List Bool
 with_motion_by index precision None bits = bits
 with_motion_by index precision (Some m) bits = with_table index precision m.blocks bits

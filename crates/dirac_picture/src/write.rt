@@ -69,7 +69,7 @@ fn write_table(
     Ok(())
 }
 
-/// Writes them for an inter picture; an intra picture has none.
+/// Writes the block parameters and the blocks of an inter picture; an intra picture has none.
 fn write_motion(
     alloc: Global,
     w: &mut BitWriter,
@@ -98,7 +98,8 @@ fn write_flag(w: &mut BitWriter, code: u8, none: bool) -> Result<(), NoMemory>
     w.bit(none)
 }
 
-/// Writes that flag and the residual, where there is one, up to a byte's end.
+/// Writes whether the residual is 0, which an inter picture says, and the residual, where there is one, up to a byte's
+/// end.
 fn write_coefficients(
     w: &mut BitWriter,
     sequence: &Sequence,

@@ -16,7 +16,7 @@ abbrev pub key_in : Option Waiting → ℤ
 key_in None = pos 0
 key_in (Some w) = w.key
 
--- that of waiting picture n
+-- the key of waiting picture n
 abbrev pub key_at : List Waiting → ℕ → ℤ
 key_at ws n = key_in (slice_get ws n)
 

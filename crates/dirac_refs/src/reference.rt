@@ -95,14 +95,14 @@ impl Reference {
         self.halves.as_ref()
     }
 
-    /// The same reference without its half samples.
+    /// The reference without half samples.
     pub(crate) fn bare(self) -> Reference
         ensures { result ≡ self }
     {
         Reference::new(self.picture)
     }
 
-    /// The same reference with its half samples, where they take little room and memory is there; `double` makes them.
+    /// The reference with its half samples, where they take little room and memory is there; `double` makes them.
     pub(crate) fn doubled_by<F: Fn(&Picture) -> Result<Halves, NoMemory>>(
         self,
         double: &F,
