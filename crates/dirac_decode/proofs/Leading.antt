@@ -194,7 +194,7 @@ pub turns_fall : (m m' : StreamEnd) (at at' : ℕ) → m ≡ stream_end.Going �
 turns_fall m m' at at' going further below =
     subst (λ (x : StreamEnd). turns_left m' at' < turns_left x at) (sym going) (turns_under m' at at' further below)
 
--- a decoder that drains has the course's greatest length
+-- a decoder that drains has the greatest length that its state had
 pub most_of : (draining : Bool) (state : StreamState) → (if draining then emptied state else state).most ≡ state.most
 most_of true state = refl
 most_of false state = refl

@@ -72,7 +72,7 @@ Advances (Err (halt.Fault fault)) units units' state state' held held' =
 Advances (Err halt.ReadFault) units units' state state' held held' = ⊤
 Advances (Err halt.NoMemory) units units' state state' held held' = ⊤
 
--- the same, whatever follows the bytes held, where the next unit is there
+-- where the next unit is there, what its content, or the fault in its place, brings, whatever follows the bytes held
 abbrev pub AdvancesBefore : Result Step Halt → CuttingProgress → CuttingProgress → StreamState → StreamState
     → Option (List ℕ)
     → Option (List ℕ) → Type 0
@@ -81,7 +81,7 @@ AdvancesBefore answer units units' state state' held held' =
     → Advances answer units units' state state' (append_known held more) (append_known held' more)
 
 -- one unit was taken, whose content brings the step; or that end or fault stands next, or the taking was stopped, and
--- the course stays
+-- the state stays
 abbrev pub TakesBy : Result Step Halt → CuttingProgress → CuttingProgress → StreamState → StreamState → Option (List ℕ)
     → Option (List ℕ) → Type 0
 TakesBy (Ok step) units units' state state' held held' =

@@ -16,7 +16,7 @@ use Rattle.dirac_content.specs.StreamState.{StreamState, stream_begun}
 use Rattle.dirac_content.specs.Shown.{Outcome, Shows, accepted, with_front}
 use Rattle.dirac_content.specs.Leaving.{leaving}
 
--- the units cut so far, the course of their content, pictures that leave before the next unit is read,
+-- the units cut so far, the state that their content brought, pictures that leave before the next unit is read,
 -- how many were given, and the end, fault or stop that was met
 pub record Decoding : Type 0 where
   pub units : CuttingProgress

@@ -40,7 +40,7 @@ StepGives None old new held held' =
     × (new.stream_end ≡ stream_end.Stopped → ⊥) × (new.given ≡ old.given) × IsFurther old new
 StepGives (Some next) old new held held' = Gives next old new held held'
 
--- the same, whatever follows the bytes held
+-- what an answer says of the decoder before and behind a step, whatever follows the bytes held
 abbrev pub StepGivesBefore : Option Next → Decoding → Decoding → Option (List ℕ) → Option (List ℕ) → Type 0
 StepGivesBefore answer old new held held' =
     (more : List ℕ) → StepGives answer old new (append_known held more) (append_known held' more)
@@ -82,12 +82,12 @@ given_by (Some next.ReadFault) = []
 given_by (Some next.NoMemory) = []
 given_by (Some next.Stopped) = []
 
--- the course stays, and all that wait are due
+-- the state stays, and all that wait are due
 abbrev pub DrainsAll : Decoding → Decoding → Type 0
 DrainsAll old new = (new.state ≡ emptied old.state) × (new.due ≡ flushed old.state.waiting)
 
 -- what a step does by what it met: it took one unit, and what leaves at it was given or is due; or that end or fault
--- stands next; or it was stopped, and the course stays
+-- stands next; or it was stopped, and the state stays
 abbrev pub TakesAs : StreamEnd → Option Next → Decoding → Decoding → Option (List ℕ) → Option (List ℕ) → Type 0
 TakesAs stream_end.Going answer old new held held' =
     IfSome (prepend_known old.units.ahead held)
