@@ -28,6 +28,9 @@ pub fn decode_stream<S: Source, K: Sink>(alloc: Global, source: &mut S, out: &mu
     // Whatever is answered, what was written is a front of what the bytes read show by themselves.
     ensures front_of_read { IfSome (S.held source.old) (λ bytes. IsFrontOfRead bytes (S.held source.new)
         (K.taken out.old) (K.taken out.new)) }
+    // Whatever front of the bytes left is read too, what was written is a front of what the bytes read then show.
+    ensures front_of_more { IfSome (S.held source.old) (λ bytes. IsFrontOfMore bytes (S.held source.new)
+        (K.taken out.old) (K.taken out.new)) }
     ensures whole { IfDone result (IsAtEnd (S.held source.new)) }
     ensures at_most_8_references { IfTally result (λ tally. tally.references ≤ MOST_REFERENCES) }
     ensures read { result ≡ Decoded.ReadFault → Rose (S.faults source.old) (S.faults source.new) }

@@ -8,6 +8,7 @@ returns g c =
       decoded = written.decoded;
       broken_off = written.broken_off;
       front_of_read = written.front_of_read;
+      front_of_more = written.front_of_more;
       whole = written.at_the_end;
       at_most_8_references = written.at_most_8_references;
       read = faults.read;
