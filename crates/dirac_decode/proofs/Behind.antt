@@ -1,5 +1,5 @@
 -- A step behind others that gave no picture.
-use Rattle.std.proofs.Common.{◌≡◌, ◌∙◌, ℕ, ◌+◌, List, [], ◌∷◌, ◌++◌, Option, None, Some, sym, ap, subst, append_assoc}
+use Rattle.std.proofs.Common.{◌≡◌, ◌∙◌, ℕ, ◌+◌, List, [], ◌∷◌, ◌++◌, Option, None, Some, refl, sym, ap, subst, append_assoc}
 use Rattle.std.specs.Prelude.{IfSome}
 use Rattle.std.specs.Io.KnownBytes.{prepend_known}
 use Rattle.dirac_common.specs.declared.picture.Picture.{Picture}
@@ -7,9 +7,10 @@ use Rattle.dirac_units.specs.declared.unit.StreamEnd.{StreamEnd}
 use Rattle.dirac_units.specs.declared.unit.StreamEnd.TheVariants as stream_end
 use Rattle.dirac_decode.specs.declared.answers.Next.{Next}
 use Rattle.dirac_decode.specs.declared.answers.Next.TheVariants as next
-use Rattle.dirac_decode.specs.Decoding.{AnswersWhatWasMet, BreaksIn, BreaksOff, Decoding, Gives, LeadsTo, Passed, StopsIn}
+use Rattle.dirac_decode.specs.Decoding.{AnswersWhatWasMet, BreaksIn, BreaksOff, Decoding, Gives, GivesDue, LeadsTo, Passed, StopsIn}
+use Rattle.dirac_decode.specs.Stepping.{TakesOne}
 use Rattle.dirac_decode.proofs.Alone.{taken_on}
-use Rattle.dirac_decode.proofs.Leading.{leads_on}
+use Rattle.dirac_decode.proofs.Leading.{leads_on, not_stopped}
 
 -- where the decoder between was stopped, it is the first one
 pub gives_behind : (answer : Next) (a b c : Decoding) (held held' held'' : Option (List ℕ)) → LeadsTo a b held held' [] → b.given ≡ a.given → (b.stream_end ≡ stream_end.Stopped → b ≡ a) → Gives answer b c held' held'' → Gives answer a c held held''
@@ -70,3 +71,22 @@ answers_on stream_end.Stopped due answer b still answers =
 pub answers_behind : (a b : Decoding) (answer : Next) → ((a.stream_end ≡ stream_end.Going → ⊥) → b ≡ a) → AnswersWhatWasMet b.stream_end b.due answer → AnswersWhatWasMet a.stream_end a.due answer
 answers_behind a b answer still answers =
     answers_on a.stream_end a.due answer b (λ ne. (ap (λ (d : Decoding). d.stream_end) (still ne), ap (λ (d : Decoding). d.due) (still ne))) answers
+
+-- ---- pictures that are due
+
+none_by : (due : List Picture) (b c : Decoding) (held held' : Option (List ℕ)) → b.due ≡ due → b.stream_end ≡ stream_end.Going → TakesOne None b c held held' → due ≡ []
+none_by [] b c held held' is going one = refl
+none_by (p ∷ rest) b c held held' is going one =
+    let shown : None ≡ Some (next.Shown p) = (one.due p rest (not_stopped b.stream_end going) is).0 in absurd cc
+
+-- a step that answers nothing found none due
+pub none_found : (b c : Decoding) (held held' : Option (List ℕ)) → b.stream_end ≡ stream_end.Going → TakesOne None b c held held' → b.due ≡ []
+none_found b c held held' going one = none_by b.due b c held held' refl going one
+
+-- while pictures are due no step comes before the one that gives the first
+pub due_behind : (answer : Next) (a b c : Decoding) (held held' : Option (List ℕ)) → ((a.due ≡ [] → ⊥) → b ≡ a) → TakesOne (Some answer) b c held held' → GivesDue answer a c
+due_behind answer a b c held held' still one = λ p rest moving is.
+    let same : b ≡ a = still (λ none. let both : [] ≡ p ∷ rest = sym none ∙ is in cc) in
+    let found = (subst (λ (x : Decoding). TakesOne (Some answer) x c held held') same one).due p rest moving is in
+    let shown : Some answer ≡ Some (next.Shown p) = found.0 in
+    (cc, found.1)

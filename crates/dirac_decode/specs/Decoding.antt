@@ -161,6 +161,13 @@ AnswersWhatWasMet stream_end.Ended due answer = due ≡ [] → answer ≡ next.E
 AnswersWhatWasMet (stream_end.Faulted fault) due answer = due ≡ [] → answer ≡ next.Fault fault
 AnswersWhatWasMet stream_end.Stopped due answer = answer ≡ next.Stopped
 
+-- where pictures are due and the decoder wasn't stopped, the first of them is given and the others stay due; nothing
+-- else changes but how many were given
+abbrev pub GivesDue : Next → Decoding → Decoding → Type 0
+GivesDue answer old new =
+    (p : Picture) (rest : List Picture) → (old.stream_end ≡ stream_end.Stopped → ⊥) → old.due ≡ p ∷ rest
+    → (answer ≡ next.Shown p) × (new ≡ record old { due = rest; given = old.given + 1 })
+
 -- the number of pictures given, and the greatest length of a reference list
 abbrev pub tally : Decoding → Tally
 tally d = record { pictures = d.given; references = d.state.most }

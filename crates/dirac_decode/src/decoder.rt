@@ -1,7 +1,8 @@
 ghost use Rattle.std.specs.Prelude.{◌≡◌, ℕ, ◌+◌, ◌<◌, ◌≤◌, ◌^◌, [], length, Option};
 ghost use Rattle.std.specs.Io.KnownBytes.{IsAtEnd};
 ghost use Rattle.dirac_io.specs.Faults.{Rose};
-ghost use Rattle.dirac_decode.specs.Decoding.{decoder_begun, tally, AnswersWhatWasMet, BreaksOff, Gives, StopsIn};
+ghost use Rattle.dirac_decode.specs.Decoding.{decoder_begun, tally, AnswersWhatWasMet, BreaksOff, Gives, GivesDue};
+ghost use Rattle.dirac_decode.specs.Decoding.{StopsIn};
 ghost use Rattle.dirac_decode_picture.specs.Payload.{DecodesPictures};
 
 mod stepping;
@@ -76,6 +77,8 @@ impl Decoder {
         requires { self.old.units.unit_place.at + length self.old.units.ahead + S.left source.old < 2 ^ 63 }
         ensures gives { Gives result self.old self.new (S.held source.old) (S.held source.new) }
         ensures repeated { AnswersWhatWasMet self.old.stream_end self.old.due result }
+        ensures due { GivesDue result self.old self.new }
+        ensures due_without_reading { (self.old.due ≡ [] → ⊥) → source.new ≡ source.old }
         ensures repeats_without_reading { (self.old.stream_end ≡ StreamEnd.Going → ⊥) → source.new ≡ source.old }
         ensures whole { (self.old.stream_end ≡ StreamEnd.Ended → IsAtEnd (S.held source.old)) → self.new.stream_end
             ≡ StreamEnd.Ended → IsAtEnd (S.held source.new) }
@@ -104,6 +107,8 @@ impl Decoder {
         requires no_overflow { self.old.units.unit_place.at + length self.old.units.ahead + S.left source.old < 2 ^ 63 }
         ensures gives { Gives result self.old self.new (S.held source.old) (S.held source.new) }
         ensures repeated { AnswersWhatWasMet self.old.stream_end self.old.due result }
+        ensures due { GivesDue result self.old self.new }
+        ensures due_without_reading { (self.old.due ≡ [] → ⊥) → source.new ≡ source.old }
         ensures repeats_without_reading { (self.old.stream_end ≡ StreamEnd.Going → ⊥) → source.new ≡ source.old }
         ensures whole { (self.old.stream_end ≡ StreamEnd.Ended → IsAtEnd (S.held source.old)) → self.new.stream_end
             ≡ StreamEnd.Ended → IsAtEnd (S.held source.new) }

@@ -82,6 +82,7 @@ impl Decoder {
             → StepGivesBefore result self.old self.new (S.held source.old) (S.held source.new) }
         ensures repeated { IfSome result (AnswersWhatWasMet self.old.stream_end self.old.due) }
         ensures repeats_without_reading { (self.old.stream_end ≡ StreamEnd.Going → ⊥) → source.new ≡ source.old }
+        ensures due_without_reading { (self.old.due ≡ [] → ⊥) → source.new ≡ source.old }
         ensures whole { (self.old.stream_end ≡ StreamEnd.Ended → IsAtEnd (S.held source.old)) → self.new.stream_end
             ≡ StreamEnd.Ended → IsAtEnd (S.held source.new) }
         ensures broken_off { result ≡ Some Next.ReadFault → BreaksOff self.old (S.held source.old)
@@ -111,6 +112,7 @@ impl Decoder {
             → StepGivesBefore result self.old self.new (S.held source.old) (S.held source.new) }
         ensures repeated { IfSome result (AnswersWhatWasMet self.old.stream_end self.old.due) }
         ensures repeats_without_reading { (self.old.stream_end ≡ StreamEnd.Going → ⊥) → source.new ≡ source.old }
+        ensures due_without_reading { (self.old.due ≡ [] → ⊥) → source.new ≡ source.old }
         ensures whole { (self.old.stream_end ≡ StreamEnd.Ended → IsAtEnd (S.held source.old)) → self.new.stream_end
             ≡ StreamEnd.Ended → IsAtEnd (S.held source.new) }
         ensures broken_off { result ≡ Some Next.ReadFault → BreaksOff self.old (S.held source.old)

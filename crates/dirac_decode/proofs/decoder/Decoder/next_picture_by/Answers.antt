@@ -1,6 +1,6 @@
 use Rattle.std.proofs.Common.{◌∙◌, ◌+◌, ◌^◌, ap, length, refl, sym, [], Some}
 use Rattle.dirac_decode.specs.Decoding.{Decoding}
-use Rattle.dirac_decode.proofs.Behind.{answers_behind, breaks_behind, gives_behind, stops_behind}
+use Rattle.dirac_decode.proofs.Behind.{answers_behind, breaks_behind, due_behind, gives_behind, none_found, stops_behind}
 use Rattle.dirac_decode.proofs.Counts.{below_on, le_itself, le_on, place_below, rose_since}
 use Rattle.dirac_decode.proofs.Leading.{leads_on, leads_same, turns_fall}
 use Rattle.dirac_decode.proofs.decoder.Decoder.next_picture_by.Goals as goal
@@ -33,9 +33,13 @@ returns-in-Some g c =
     let next = c.in-Some.next in
     record {
       gives = gives_behind next a b d held held' held'' so.leads so.given so.stopped c.in-Some.ensures.gives;
-      repeated = answers_behind a b next (λ ne. (so.still ne).1) c.in-Some.ensures.repeated;
+      repeated = answers_behind a b next (λ ne. (so.still (λ going none. ne going)).1) c.in-Some.ensures.repeated;
+      due = due_behind next a b d held' held'' (λ some. (so.still (λ going. some)).1) c.in-Some.ensures.at_most_one_unit;
+      due_without_reading = λ some.
+          let same = so.still (λ going. some) in
+          c.step_by.ensures.due_without_reading (λ none. some (sym (ap (λ (x : Decoding). x.due) same.1) ∙ none)) ∙ same.0;
       repeats_without_reading = λ ne.
-          let same = so.still ne in
+          let same = so.still (λ going none. ne going) in
           c.step_by.ensures.repeats_without_reading (λ going. ne (sym (ap (λ (x : Decoding). x.stream_end) same.1) ∙ going)) ∙ same.0;
       whole = λ at_end. c.step_by.ensures.whole (so.whole at_end);
       broken_off = λ is. breaks_behind a b held held' held'' so.leads (c.step_by.ensures.broken_off (c.in-Some.is ∙ ap Some is));
@@ -59,7 +63,9 @@ units-preserved g c =
       leads = leads_on a b d (g.S.Source.held c.args.source.now) (g.S.Source.held c.units.source) (g.S.Source.held c.step_by.new.source) [] so.leads gives.0;
       given = gives.3 ∙ so.given;
       stopped = λ is. absurd (gives.2 is);
-      still = λ ne. absurd (ne (sym (ap (λ (x : Decoding). x.stream_end) (so.still ne).1) ∙ gives.1));
+      still = λ ne.
+          let same = (so.still ne).1 in
+          absurd (ne (sym (ap (λ (x : Decoding). x.stream_end) same) ∙ gives.1) (sym (ap (λ (x : Decoding). x.due) same) ∙ none_found b d (g.S.Source.held c.units.source) (g.S.Source.held c.step_by.new.source) gives.1 c.in_default.ensures.at_most_one_unit));
       whole = λ at_end. c.step_by.ensures.whole (so.whole at_end);
       most = le_on a.state.most b.state.most d.state.most so.most c.step_by.ensures.greatest;
       room = le_on (d.units.unit_place.at + length d.units.ahead + g.S.Source.left c.step_by.new.source) (b.units.unit_place.at + length b.units.ahead + g.S.Source.left c.units.source) (a.units.unit_place.at + length a.units.ahead + g.S.Source.left c.args.source.now) c.step_by.ensures.no_overflow so.room;

@@ -10,7 +10,7 @@ invariant-units g l = record {
   leads : LeadsTo l.fn.self l.self (g.S.Source.held l.initial.source) (g.S.Source.held l.source) [];
   given : l.self.given ≡ l.fn.self.given;
   stopped : l.self.stream_end ≡ stream_end.Stopped → l.self ≡ l.fn.self;
-  still : (l.fn.self.stream_end ≡ stream_end.Going → ⊥) → (l.source ≡ l.initial.source) × (l.self ≡ l.fn.self);
+  still : (l.fn.self.stream_end ≡ stream_end.Going → l.fn.self.due ≡ [] → ⊥) → (l.source ≡ l.initial.source) × (l.self ≡ l.fn.self);
   whole : (l.fn.self.stream_end ≡ stream_end.Ended → IsAtEnd (g.S.Source.held l.initial.source)) → l.self.stream_end ≡ stream_end.Ended → IsAtEnd (g.S.Source.held l.source);
   most : l.fn.self.state.most ≤ l.self.state.most;
   room : l.self.units.unit_place.at + length l.self.units.ahead + g.S.Source.left l.source ≤ l.fn.self.units.unit_place.at + length l.fn.self.units.ahead + g.S.Source.left l.initial.source;
