@@ -8,6 +8,7 @@ pub mod Stepped
 pub mod Alone
 pub mod Turning
 pub mod Behind
+pub mod UpTo
 pub mod Found
 pub mod Counts
 pub mod Taken

@@ -79,11 +79,11 @@ turn_takes (Ok step.On) units units' state state' given held held' takes = takes
 turn_takes (Ok (step.Shown p)) units units' state state' given held held' takes = takes
 turn_takes (Ok step.Drains) units units' state state' given held held' takes = takes
 turn_takes (Err halt.End) units units' state state' given held held' takes =
-    ((ap emptied takes.0, ap (λ (s : StreamState). flushed s.waiting) takes.0), takes.1)
+    ((ap emptied takes.0, ap (λ (s : StreamState). flushed s.waiting) takes.0), takes.1, refl)
 turn_takes (Err (halt.Fault fault)) units units' state state' given held held' takes =
-    ((ap emptied takes.0, ap (λ (s : StreamState). flushed s.waiting) takes.0), takes.1)
-turn_takes (Err halt.ReadFault) units units' state state' given held held' takes = (takes, refl)
-turn_takes (Err halt.NoMemory) units units' state state' given held held' takes = (takes, refl)
+    ((ap emptied takes.0, ap (λ (s : StreamState). flushed s.waiting) takes.0), takes.1, refl)
+turn_takes (Err halt.ReadFault) units units' state state' given held held' takes = (takes, refl, refl)
+turn_takes (Err halt.NoMemory) units units' state state' given held held' takes = (takes, refl, refl)
 
 -- while units go on more of them can be cut
 turn_going : (taken : Result Step Halt) (units units' : CuttingProgress) → GoesOn taken units units' → (turn_by taken).stream_end ≡ stream_end.Going → units'.stream_end ≡ stream_end.Going

@@ -17,7 +17,7 @@ use Rattle.dirac_refs.specs.Delivery.{flushed}
 use Rattle.dirac_decode.specs.declared.answers.Next.{Next}
 use Rattle.dirac_decode.specs.declared.answers.Next.TheVariants as next
 use Rattle.dirac_content.specs.declared.opened.Opened.{Opened}
-use Rattle.dirac_decode.specs.Decoding.{Decoding, Gives, LeadsTo, emptied}
+use Rattle.dirac_decode.specs.Decoding.{Decoding, Gives, LeadsTo, Passed, emptied}
 use Rattle.dirac_content.specs.StreamState.{StreamState, StreamStep, unit_step}
 
 -- a parse info stands at the front of these bytes, and where it isn't refused its whole unit does
@@ -87,7 +87,7 @@ abbrev pub DrainsAll : Decoding → Decoding → Type 0
 DrainsAll old new = (new.state ≡ emptied old.state) × (new.due ≡ flushed old.state.waiting)
 
 -- what a step does by what it met: it took one unit, and what leaves at it was given or is due; or that end or fault
--- stands next; or it was stopped, and the state stays
+-- stands next, and none was given; or it was stopped, the state stays, and none was given or is due
 abbrev pub TakesAs : StreamEnd → Option Next → Decoding → Decoding → Option (List ℕ) → Option (List ℕ) → Type 0
 TakesAs stream_end.Going answer old new held held' =
     IfSome (prepend_known old.units.ahead held)
@@ -96,9 +96,12 @@ TakesAs stream_end.Going answer old new held held' =
 TakesAs stream_end.Ended answer old new held held' =
     DrainsAll old new
     × IfSome (prepend_known old.units.ahead held) (λ bytes. front_of old.units.unit_place bytes ≡ Err None)
+    × (given_by answer ≡ [])
 TakesAs (stream_end.Faulted fault) answer old new held held' =
     DrainsAll old new × IfSome (prepend_known old.units.ahead held) (FaultsAt old.units.unit_place old.state fault)
-TakesAs stream_end.Stopped answer old new held held' = (new.state ≡ old.state) × (new.due ≡ [])
+    × (given_by answer ≡ [])
+TakesAs stream_end.Stopped answer old new held held' =
+    (new.state ≡ old.state) × (new.due ≡ []) × (given_by answer ≡ [])
 
 -- a step takes at most one unit: none while a picture is due, which it gives, nor once something was met
 pub record TakesOne (answer : Option Next) (old new : Decoding) (held held' : Option (List ℕ)) : Type 0 where
@@ -106,6 +109,18 @@ pub record TakesOne (answer : Option Next) (old new : Decoding) (held held' : Op
       → (answer ≡ Some (next.Shown p)) × (new ≡ record old { due = rest; given = old.given + 1 }) × (held' ≡ held)
   pub met : (old.stream_end ≡ stream_end.Going → ⊥) → old.due ≡ [] → new ≡ old
   pub unit : old.stream_end ≡ stream_end.Going → old.due ≡ [] → TakesAs new.stream_end answer old new held held'
+
+-- a call took units one behind another, and gave no picture before it answered this: whole units, each accepted and
+-- none of them one with which a picture left, up to a decoder that goes on and at which none is due; and behind these
+-- what one step takes, the pictures of which were given or are due
+pub record TakesUpTo (answer : Option Next) (old new : Decoding) (held held' : Option (List ℕ)) : Type 0 where
+  pub before : Decoding
+  pub known : Option (List ℕ)
+  pub going : before.stream_end ≡ stream_end.Going
+  pub none_due : before.due ≡ []
+  pub passed : IfSome (prepend_known old.units.ahead held)
+      (λ bytes. Passed old before bytes (prepend_known before.units.ahead known) [])
+  pub step : TakesAs new.stream_end None before (record new { due = given_by answer ++ new.due }) known held'
 
 -- a due picture left, and nothing else changed; or none is due
 abbrev pub DueGives : Option Picture → Decoding → Decoding → Type 0

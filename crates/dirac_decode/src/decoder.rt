@@ -1,8 +1,9 @@
-ghost use Rattle.std.specs.Prelude.{◌≡◌, ℕ, ◌+◌, ◌<◌, ◌≤◌, ◌^◌, [], length, Option};
+ghost use Rattle.std.specs.Prelude.{◌≡◌, ℕ, ◌+◌, ◌<◌, ◌≤◌, ◌^◌, [], length, Some, Option};
 ghost use Rattle.std.specs.Io.KnownBytes.{IsAtEnd};
 ghost use Rattle.dirac_io.specs.Faults.{Rose};
 ghost use Rattle.dirac_decode.specs.Decoding.{decoder_begun, tally, AnswersWhatWasMet, BreaksOff, Gives, GivesDue};
 ghost use Rattle.dirac_decode.specs.Decoding.{StopsIn};
+ghost use Rattle.dirac_decode.specs.Stepping.{TakesUpTo};
 ghost use Rattle.dirac_decode_picture.specs.Payload.{DecodesPictures};
 
 mod stepping;
@@ -79,6 +80,9 @@ impl Decoder {
         ensures repeated { AnswersWhatWasMet self.old.stream_end self.old.due result }
         ensures due { GivesDue result self.old self.new }
         ensures due_without_reading { (self.old.due ≡ [] → ⊥) → source.new ≡ source.old }
+        // Where none is due, no unit is taken behind the first one with which a picture leaves.
+        ensures up_to { self.old.stream_end ≡ StreamEnd.Going → self.old.due ≡ []
+            → TakesUpTo (Some result) self.old self.new (S.held source.old) (S.held source.new) }
         ensures repeats_without_reading { (self.old.stream_end ≡ StreamEnd.Going → ⊥) → source.new ≡ source.old }
         ensures whole { (self.old.stream_end ≡ StreamEnd.Ended → IsAtEnd (S.held source.old)) → self.new.stream_end
             ≡ StreamEnd.Ended → IsAtEnd (S.held source.new) }
@@ -109,6 +113,9 @@ impl Decoder {
         ensures repeated { AnswersWhatWasMet self.old.stream_end self.old.due result }
         ensures due { GivesDue result self.old self.new }
         ensures due_without_reading { (self.old.due ≡ [] → ⊥) → source.new ≡ source.old }
+        // Where none is due, no unit is taken behind the first one with which a picture leaves.
+        ensures up_to { self.old.stream_end ≡ StreamEnd.Going → self.old.due ≡ []
+            → TakesUpTo (Some result) self.old self.new (S.held source.old) (S.held source.new) }
         ensures repeats_without_reading { (self.old.stream_end ≡ StreamEnd.Going → ⊥) → source.new ≡ source.old }
         ensures whole { (self.old.stream_end ≡ StreamEnd.Ended → IsAtEnd (S.held source.old)) → self.new.stream_end
             ≡ StreamEnd.Ended → IsAtEnd (S.held source.new) }

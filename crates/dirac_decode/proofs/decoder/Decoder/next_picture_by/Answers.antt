@@ -1,8 +1,9 @@
-use Rattle.std.proofs.Common.{◌∙◌, ◌+◌, ◌^◌, ap, length, refl, sym, [], Some}
+use Rattle.std.proofs.Common.{◌∙◌, ◌+◌, ◌^◌, ap, length, refl, sym, [], None, Some}
 use Rattle.dirac_decode.specs.Decoding.{Decoding}
 use Rattle.dirac_decode.proofs.Behind.{answers_behind, breaks_behind, due_behind, gives_behind, none_found, stops_behind}
 use Rattle.dirac_decode.proofs.Counts.{below_on, le_itself, le_on, place_below, rose_since}
-use Rattle.dirac_decode.proofs.Leading.{leads_on, leads_same, turns_fall}
+use Rattle.dirac_decode.proofs.Leading.{leads_on, leads_same, not_stopped, turns_fall}
+use Rattle.dirac_decode.proofs.UpTo.{up_to_behind, up_to_step}
 use Rattle.dirac_decode.proofs.decoder.Decoder.next_picture_by.Goals as goal
 
 pub units-init : goal.units-init
@@ -11,6 +12,7 @@ units-init g c = record {
   given = refl;
   stopped = λ is. refl;
   still = λ ne. (refl, refl);
+  up_to = λ going none ne. absurd (ne going none);
   whole = λ at_end is. at_end is;
   most = le_itself c.args.self.now.state.most;
   room = le_itself (c.args.self.now.units.unit_place.at + length c.args.self.now.units.ahead + g.S.Source.left c.args.source.now);
@@ -41,6 +43,9 @@ returns-in-Some g c =
       repeats_without_reading = λ ne.
           let same = so.still (λ going none. ne going) in
           c.step_by.ensures.repeats_without_reading (λ going. ne (sym (ap (λ (x : Decoding). x.stream_end) same.1) ∙ going)) ∙ same.0;
+      up_to = λ going none.
+          up_to_behind b.due next a b d held held' held'' refl so.leads (λ is. not_stopped a.stream_end going (sym (ap (λ (x : Decoding). x.stream_end) (so.stopped is)) ∙ is)) (so.up_to going none)
+          (λ ne. ap g.S.Source.held (c.step_by.ensures.repeats_without_reading ne)) c.in-Some.ensures.gives c.in-Some.ensures.at_most_one_unit;
       whole = λ at_end. c.step_by.ensures.whole (so.whole at_end);
       broken_off = λ is. breaks_behind a b held held' held'' so.leads (c.step_by.ensures.broken_off (c.in-Some.is ∙ ap Some is));
       stops = λ is. stops_behind a b held held' held'' so.leads (c.step_by.ensures.stops (c.in-Some.is ∙ ap Some is));
@@ -59,13 +64,17 @@ units-preserved g c =
     let d = c.step_by.new.self in
     let so = c.units.invariant in
     let gives = c.in_default.ensures.gives in
+    let one = c.in_default.ensures.at_most_one_unit in
+    let none = none_found b d (g.S.Source.held c.units.source) (g.S.Source.held c.step_by.new.source) gives.1 one in
     record {
       leads = leads_on a b d (g.S.Source.held c.args.source.now) (g.S.Source.held c.units.source) (g.S.Source.held c.step_by.new.source) [] so.leads gives.0;
       given = gives.3 ∙ so.given;
       stopped = λ is. absurd (gives.2 is);
       still = λ ne.
           let same = (so.still ne).1 in
-          absurd (ne (sym (ap (λ (x : Decoding). x.stream_end) same) ∙ gives.1) (sym (ap (λ (x : Decoding). x.due) same) ∙ none_found b d (g.S.Source.held c.units.source) (g.S.Source.held c.step_by.new.source) gives.1 c.in_default.ensures.at_most_one_unit));
+          absurd (ne (sym (ap (λ (x : Decoding). x.stream_end) same) ∙ gives.1) (sym (ap (λ (x : Decoding). x.due) same) ∙ none));
+      up_to = λ going empty ne.
+          up_to_step None a b d (g.S.Source.held c.args.source.now) (g.S.Source.held c.units.source) (g.S.Source.held c.step_by.new.source) so.leads gives.1 none one;
       whole = λ at_end. c.step_by.ensures.whole (so.whole at_end);
       most = le_on a.state.most b.state.most d.state.most so.most c.step_by.ensures.greatest;
       room = le_on (d.units.unit_place.at + length d.units.ahead + g.S.Source.left c.step_by.new.source) (b.units.unit_place.at + length b.units.ahead + g.S.Source.left c.units.source) (a.units.unit_place.at + length a.units.ahead + g.S.Source.left c.args.source.now) c.step_by.ensures.no_overflow so.room;
