@@ -50,15 +50,15 @@ impl Queue {
         Ok(())
     }
 
-    /// Drops the bytes that were taken.
+    /// Drops the bytes that were taken, where those left are no more: so a byte is moved at most once on the average.
     fn close_gap(&mut self)
         ensures { self.new ≡ self.old }
     {
-        if self.from == 0 {
-            return;
-        }
         let len = self.bytes.len();
         let rest = len - self.from;
+        if self.from < rest {
+            return;
+        }
         self.bytes.as_mut_slice().copy_within(self.from..len, 0);
         self.bytes.truncate(rest);
         self.from = 0;
