@@ -6,8 +6,11 @@ use Rattle.dirac_common.specs.declared.limits.TheConstants.{LARGEST_SIDE}
 use Rattle.dirac_common.specs.declared.picture.Picture.{Picture}
 use Rattle.dirac_sequence_header.specs.declared.sequence.Sequence.{Sequence}
 use Rattle.dirac_upconvert.specs.HalfSamples.{IsSample}
+use Rattle.dirac_upconvert.specs.SubSamples.{Up}
 use Rattle.dirac_content.specs.Content.{IsPicture, named, up_of}
 use Rattle.dirac_plan.specs.declared.planned.Planned.{Planned}
+use Rattle.dirac_motion.specs.declared.lent.Luma.{Luma}
+use Rattle.dirac_motion.specs.declared.lent.Luma.TheVariants.{Kept, Made}
 use Rattle.dirac_motion.specs.declared.lent.Lumas.{Lumas}
 use Rattle.dirac_motion.specs.declared.lent.Reference.{Reference}
 use Rattle.dirac_motion.specs.declared.lent.References.{References}
@@ -18,10 +21,15 @@ pub record HasLuma (p : Picture) : Type 0 where
   pub down : p.y.height ≤ LARGEST_SIDE
   pub samples : All IsSample p.y.values
 
+-- the luma with half samples, kept or made
+abbrev pub luma_in : Luma → Up
+luma_in (Kept up) = up.now
+luma_in (Made up) = up
+
 -- the luma of these pictures with half samples
 pub record AreLumas (one : Picture) (other : Option Picture) (l : Lumas) : Type 0 where
-  pub first : l.first ≡ up_of one.y
-  pub second : l.second ≡ option_map (λ (p : Picture). up_of p.y) other
+  pub first : luma_in l.first ≡ up_of one.y
+  pub second : option_map luma_in l.second ≡ option_map (λ (p : Picture). up_of p.y) other
 
 -- a picture of this sequence, and its luma with half samples
 pub record IsReference (s : Sequence) (r : Reference) : Type 0 where

@@ -2,7 +2,7 @@ ghost use Rattle.std.specs.Prelude.{◌≡◌, IfOk, Some};
 ghost use Rattle.std.specs.Option.{ForSome, option_copied};
 ghost use Rattle.dirac_sequence_header.specs.declared.sequence.Sequence.{Sequence};
 ghost use Rattle.dirac_content.specs.Content.{IsPicture, up_of};
-ghost use Rattle.dirac_motion.specs.Lent.{AreLent, AreLumas, HasLuma, first_of, second_of};
+ghost use Rattle.dirac_motion.specs.Lent.{AreLent, AreLumas, HasLuma, first_of, luma_in, second_of};
 
 use dirac_common::NoMemory;
 use dirac_refs::Reference as Listed;
@@ -25,42 +25,78 @@ pub struct References<'a> {
     pub second: Option<Reference<'a>>,
 }
 
-/// The luma of one reference or two, with half samples.
+/// The luma of a reference with half samples.
 #[derive(Drop)]
-pub struct Lumas {
-    pub first: UpPlane,
-    pub second: Option<UpPlane>,
+pub enum Luma<'a> {
+    /// Lent by the reference, which keeps it.
+    Kept(&'a UpPlane),
+    /// Made for one picture.
+    Made(UpPlane),
 }
 
-/// The luma of a picture, upconverted.
-fn luma_of(alloc: Global, listed: &Listed) -> Result<UpPlane, NoMemory>
-    requires { HasLuma listed.now }
-    ensures { IfOk result (λ u. u ≡ up_of listed.now.y) }
+impl<'a> Luma<'a> {
+    /// Lends the plane.
+    pub fn plane(&self) -> &UpPlane
+        ensures { result.now ≡ luma_in self.now }
+    {
+        match self {
+            Luma::Kept(up) => up,
+            Luma::Made(up) => up,
+        }
+    }
+}
+
+/// The luma of one reference or two, with half samples.
+#[derive(Drop)]
+pub struct Lumas<'a> {
+    pub first: Luma<'a>,
+    pub second: Option<Luma<'a>>,
+}
+
+/// Lends the luma of a reference with half samples, while they are kept.
+fn kept_luma(listed: &Listed) -> Option<&UpPlane>
+    ensures { ForSome (option_copied result) (λ u. u ≡ up_of listed.now.y) }
 {
-    let luma = upconvert(alloc, &listed.picture().y)?;
-    Ok(luma)
+    match listed.halves() {
+        None => None,
+        Some(halves) => Some(&halves.y),
+    }
+}
+
+/// The luma of a reference with half samples, which are made where they aren't kept.
+fn luma_of<'a>(alloc: Global, listed: &'a Listed) -> Result<Luma<'a>, NoMemory>
+    requires { HasLuma listed.now }
+    ensures { IfOk result (λ l. luma_in l ≡ up_of listed.now.y) }
+{
+    match kept_luma(listed) {
+        None => {
+            let made = upconvert(alloc, &listed.picture().y)?;
+            Ok(Luma::Made(made))
+        }
+        Some(up) => Ok(Luma::Kept(up)),
+    }
 }
 
 /// The luma of two references, upconverted side by side.
-fn lumas_side_by_side<R: Threads + Sync>(
+fn lumas_side_by_side<'a, R: Threads + Sync>(
     rt: &R,
     alloc: Global,
-    first: &Listed,
-    second: &Listed,
-) -> Result<Lumas, NoMemory>
+    first: &'a Listed,
+    second: &'a Listed,
+) -> Result<Lumas<'a>, NoMemory>
     requires first { HasLuma first.now }
     requires second { HasLuma second.now }
     ensures { IfOk result (AreLumas first.now (Some second.now)) }
 {
     let (other, luma) = join(
         rt,
-        || -> Result<UpPlane, NoMemory>
+        || -> Result<Luma, NoMemory>
             requires { HasLuma second.now }
-            ensures { IfOk result (λ u. u ≡ up_of second.entry.now.y) }
+            ensures { IfOk result (λ l. luma_in l ≡ up_of second.entry.now.y) }
         { luma_of(alloc, second) },
-        || -> Result<UpPlane, NoMemory>
+        || -> Result<Luma, NoMemory>
             requires { HasLuma first.now }
-            ensures { IfOk result (λ u. u ≡ up_of first.entry.now.y) }
+            ensures { IfOk result (λ l. luma_in l ≡ up_of first.entry.now.y) }
         { luma_of(alloc, first) },
     );
     let first = luma?;
@@ -71,9 +107,13 @@ fn lumas_side_by_side<R: Threads + Sync>(
     })
 }
 
-impl Lumas {
-    /// Upconverts the luma of references.
-    pub fn of(alloc: Global, first: &Listed, second: Option<&Listed>) -> Result<Lumas, NoMemory>
+impl<'a> Lumas<'a> {
+    /// The luma of references: what they keep is lent, and the other is made.
+    pub fn of(
+        alloc: Global,
+        first: &'a Listed,
+        second: Option<&'a Listed>,
+    ) -> Result<Lumas<'a>, NoMemory>
         requires first { HasLuma first.now }
         requires second { ForSome (option_copied second) HasLuma }
         ensures { IfOk result (λ l. AreLumas first.now (option_copied second.entry) l) }
@@ -94,19 +134,20 @@ impl Lumas {
         }
     }
 
-    /// Upconverts the luma of references: of both side by side with two workers or more.
+    /// The luma of references: what they keep is lent, and where the first keeps none, with two workers or more that of
+    /// both is made side by side.
     pub fn by_workers<R: Threads + Sync>(
         rt: &R,
         alloc: Global,
-        first: &Listed,
-        second: Option<&Listed>,
+        first: &'a Listed,
+        second: Option<&'a Listed>,
         workers: u32,
-    ) -> Result<Lumas, NoMemory>
+    ) -> Result<Lumas<'a>, NoMemory>
         requires first { HasLuma first.now }
         requires second { ForSome (option_copied second) HasLuma }
         ensures { IfOk result (λ l. AreLumas first.now (option_copied second.entry) l) }
     {
-        if workers <= 1 {
+        if workers <= 1 || first.halves().is_some() {
             return Lumas::of(alloc, first, second);
         }
         match second {
@@ -116,7 +157,7 @@ impl Lumas {
     }
 
     /// The references, whose luma these planes are.
-    pub fn lend<'a>(&'a self, first: &'a Listed, second: Option<&'a Listed>) -> References<'a>
+    pub fn lend<'b>(&'b self, first: &'b Listed, second: Option<&'b Listed>) -> References<'b>
         requires { AreLumas first.now (option_copied second) self.now }
         ensures first { first_of result ≡ first.now }
         ensures second { second_of result ≡ option_copied second.entry }
@@ -125,7 +166,7 @@ impl Lumas {
     {
         let first = Reference {
             picture: first,
-            luma: &self.first,
+            luma: self.first.plane(),
         };
         match second {
             None => References {
@@ -134,10 +175,13 @@ impl Lumas {
             },
             Some(picture) => match &self.second {
                 None => unreachable!(),
-                Some(luma) => References {
-                    first,
-                    second: Some(Reference { picture, luma }),
-                },
+                Some(luma) => {
+                    let luma = luma.plane();
+                    References {
+                        first,
+                        second: Some(Reference { picture, luma }),
+                    }
+                }
             },
         }
     }

@@ -11,4 +11,4 @@ mod shared;
 
 pub use choose::{choose_blocks, choose_from};
 pub use laws::chosen_tables_fit;
-pub use lent::{Lumas, Reference, References};
+pub use lent::{Luma, Lumas, Reference, References};
