@@ -6,3 +6,4 @@ pub mod Reading
 pub mod OfRead
 pub mod Closing
 pub mod Examples
+pub mod Doubling

@@ -2,13 +2,14 @@
 
 ghost use Rattle.std.specs.Prelude.{◌≡◌, ◌≤◌, ◌<◌, ◌+◌, ◌^◌, if◌then◌else◌, length, Ok, Err, OnOk, IfOk, IfErr, true};
 ghost use Rattle.std.specs.Io.KnownBytes.{Appends};
-ghost use Rattle.std.specs.List.{AllByRecursion};
+ghost use Rattle.std.specs.List.{All, AllByRecursion};
 ghost use Rattle.dirac_io.specs.Faults.{Rose};
 ghost use Rattle.dirac_io.specs.Writing.{AppendsFront};
 ghost use Rattle.dirac_types.specs.Settings.{IsAccepted};
 ghost use Rattle.dirac_sequence.specs.Written.{sequence_payload};
 ghost use Rattle.dirac_picture.specs.Grammar.{are_listed, is_intra as is_intra_code};
 ghost use Rattle.dirac_refs.specs.Delivery.{delivered};
+ghost use Rattle.dirac_refs.specs.Halves.{CanBeDoubled};
 ghost use Rattle.dirac_refs.specs.References.{committed};
 ghost use Rattle.dirac_content.specs.StreamState.{as_reference};
 ghost use Rattle.dirac_content.specs.Raw.{raws};
@@ -31,6 +32,7 @@ use dirac_io::{Put, Sink, Unwritten};
 use dirac_picture::is_intra;
 use dirac_plan::{Planned, Planner};
 use dirac_refs::{RefBuffer, reference_of};
+use dirac_types::Settings;
 use dirac_units::{PARSE_INFO_LENGTH, put_unit};
 use std::alloc::Global;
 
@@ -103,8 +105,20 @@ fn length_before(code: u8, header: &[u8], previous: u32) -> u32
     }
 }
 
+/// Keeps half samples of the pictures that a planned frame refers to, and of no other; an intra frame changes nothing.
+/// Fields refer to those of their own parity in turn, and would lose each time what was kept: of them none are.
+fn keep_halves(alloc: Global, settings: &Settings, planned: &Planned, refs: &mut RefBuffer)
+    requires { All CanBeDoubled refs.old }
+    ensures { refs.new ≡ refs.old }
+{
+    if settings.fields != 0 {
+        return;
+    }
+    refs.keep_halves(alloc, planned.ref1, planned.ref2);
+}
+
 /// Codes a planned picture by the call handed in.
-fn code_source<F: Fn(&Planned, &Picture, &RefBuffer, &Planner) -> Result<Coded, NoMemory>>(
+fn code_by_call<F: Fn(&Planned, &Picture, &RefBuffer, &Planner) -> Result<Coded, NoMemory>>(
     coder: &Coder<F>,
     planned: &Planned,
     source: &Picture,
@@ -125,6 +139,30 @@ fn code_source<F: Fn(&Planned, &Picture, &RefBuffer, &Planner) -> Result<Coded, 
     let code = coder.code;
     let coded = code(planned, source, refs, behind)?;
     Ok(coded)
+}
+
+/// Codes a planned picture by the call handed in, which finds the half samples of a frame's references kept.
+fn code_source<F: Fn(&Planned, &Picture, &RefBuffer, &Planner) -> Result<Coded, NoMemory>>(
+    coder: &Coder<F>,
+    planned: &Planned,
+    source: &Picture,
+    refs: &mut RefBuffer,
+    behind: &Planner,
+) -> Result<Coded, NoMemory>
+    requires codes { CodesUnder (rule_of coder.now.budget) coder.now.settings.now (F.pre coder.now.code.now)
+        (F.post coder.now.code.now) }
+    requires ready { IsReadyToCode coder.now.settings.now refs.old planned.now source.now }
+    requires behind { AreReadyBehind coder.now.settings.now behind.now }
+    ensures payload { IfOk result (λ c. c.payload.items
+        ≡ (made_under (rule_of coder.now.budget) coder.now.settings.now refs.old
+        (record { planned = planned.now; source = source.now })).payload) }
+    ensures shown { IfOk result (λ c. c.shown
+        ≡ (made_under (rule_of coder.now.budget) coder.now.settings.now refs.old
+        (record { planned = planned.now; source = source.now })).shown) }
+    ensures refs { refs.new ≡ refs.old }
+{
+    keep_halves(coder.alloc, coder.settings, planned, refs);
+    code_by_call(coder, planned, source, refs, behind)
 }
 
 /// Codes a planned picture and writes its unit, an intra picture's behind a sequence header. The planner is the one
@@ -174,7 +212,7 @@ pub(crate) fn put_source<
         Err(Unwritten::Failed) => return Err(Encoded::WriteFault),
         Err(Unwritten::NoMemory) => return Err(Encoded::NoMemory),
     }
-    let Ok(coded) = code_source(coder, planned, source, &coding.refs, behind) else {
+    let Ok(coded) = code_source(coder, planned, source, &mut coding.refs, behind) else {
         return Err(Encoded::NoMemory);
     };
     if (PARSE_INFO_LENGTH + coded.payload.len()) as u64 > u64::from(settings.unit_bytes) {

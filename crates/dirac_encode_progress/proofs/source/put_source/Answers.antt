@@ -1,4 +1,7 @@
-use Rattle.std.proofs.Common.{◌+◌, ◌≤◌, length, arith}
+use Rattle.std.proofs.Common.{◌+◌, ◌≤◌, ◌∙◌, List, ap, length, arith}
+use Rattle.dirac_common.specs.declared.picture.Picture.{Picture}
+use Rattle.dirac_refs.specs.References.{committed}
+use Rattle.dirac_content.specs.StreamState.{as_reference}
 use Rattle.dirac_encode_laws.specs.Fit.{rule_of}
 use Rattle.dirac_encode_progress.specs.Going.{so_far}
 use Rattle.dirac_encode_laws.specs.Coding.{Job}
@@ -26,11 +29,12 @@ returns-clause-coded g c =
     let short : 13 + length coded.payload.items ≤ t.unit_bytes = omega (arith, c.if-len-from.false) in
     let j : Job = record { planned = c.args.planned.now; source = c.args.source.now } in
     let previous = previous_is f t c.args.coding.now.refs j c.args.coder.now.header.now c.args.coding.now.previous c.length_before-previous.result c.requires.header c.length_before-previous.ensures in
+    let list = ap (λ (l : List Picture). committed l c.args.planned.now.retire (as_reference c.args.planned.now.code coded.shown)) c.in-Ok-code_source.ensures.refs in
     on_ok_six c.put_coded.result (λ count last refs waiting out side.
     step_coded f t j (so_far c.args.coding.now) (so_far c.put_coded.new.coding) c.length_before-previous.result coded.payload.items coded.shown
     (g.K.Sink.taken c.args.out.now) (g.K.Sink.taken c.put_header.new.out) (g.K.Sink.taken c.put_coded.new.out) (g.N.Sink.taken c.args.side.now) (g.N.Sink.taken c.put_coded.new.side)
     (record { payload_is = c.in-Ok-code_source.ensures.payload; shown_is = c.in-Ok-code_source.ensures.shown }) previous short
-    count last refs waiting c.in-Ok.ensures.all out side)
+    count last (refs ∙ list) waiting c.in-Ok.ensures.all out side)
     c.put_coded.ensures.count c.put_coded.ensures.previous c.put_coded.ensures.refs c.put_coded.ensures.waiting c.put_coded.ensures.out c.put_coded.ensures.side
 
 pub returns-clause-stopped : goal.returns-clause-stopped
