@@ -9,11 +9,12 @@ use Rattle.dirac_units.specs.Progress.{CuttingProgress}
 use Rattle.dirac_decode.specs.declared.answers.Next.{Next}
 use Rattle.dirac_decode.specs.declared.answers.Next.TheVariants as next
 use Rattle.dirac_decode.specs.Decoding.{Comes, ComesBehind, Decoding, Remains}
+use Rattle.dirac_content.specs.StreamState.{StreamState}
 use Rattle.dirac_content.specs.Shown.{IsShown, Outcome, with_front}
 use Rattle.dirac_decode.specs.Stepping.{DueGives, IsThere, IsWholeUnit, StepGives, StepGivesBefore}
 use Rattle.dirac_push.specs.declared.answer.Answer.{Answer}
 use Rattle.dirac_push.specs.declared.answer.Answer.TheVariants as answers
-use Rattle.dirac_push.specs.Pushing.{MayFollow, PushPasses, PassesOn, PushGives, Pushed, RepeatsAnswer, RepeatsMet, ShowsToItsEnd, ShowsToItsFault, TurnGives, push_begun}
+use Rattle.dirac_push.specs.Pushing.{MayFollow, PushPasses, PassesOn, PushGives, Pushed, RepeatsAnswer, RepeatsMet, ShowsToItsEnd, ShowsToItsFault, TurnGives, kept_bytes, push_begun}
 
 none_and_none : (b : Pushed) (c : Pushed) (sent' more : List ℕ) → ((b.is_finished ≡ true) → (c.is_finished ≡ true) × (sent' ≡ [])) → MayFollow c more → MayFollow b (sent' ++ more)
 none_and_none b c sent' more finished may e =
@@ -44,6 +45,57 @@ passes_same old new same there finished = record {
       subst (λ (d : Decoding). Comes d (Some (old.there ++ more)) o) same
       (subst (λ (xs : List ℕ). Comes new.decoder (Some (xs ++ more)) o) there comes);
   finished = λ e. (finished e, refl);
+}
+
+-- what is still to come depends on the bytes there only while units go on
+remains_by : (m : StreamEnd) (state : StreamState) (units : CuttingProgress) (xs ys : List ℕ) (o : Outcome) → (m ≡ stream_end.Going → xs ≡ ys) → Remains m state units (Some xs) o → Remains m state units (Some ys) o
+remains_by stream_end.Going state units xs ys o same remains =
+    subst (λ (x : List ℕ). Remains stream_end.Going state units (Some x) o) (same refl) remains
+remains_by stream_end.Ended state units xs ys o same remains = remains
+remains_by (stream_end.Faulted fault) state units xs ys o same remains = remains
+remains_by stream_end.Stopped state units xs ys o same remains = remains
+
+comes_by : (d : Decoding) (xs ys : List ℕ) (o : Outcome) → (d.stream_end ≡ stream_end.Going → xs ≡ ys) → Comes d (Some xs) o → Comes d (Some ys) o
+comes_by d xs ys o is comes = record {
+  rest = comes.rest;
+  same = comes.same;
+  remains = remains_by d.stream_end d.state d.units xs ys comes.rest is comes.remains;
+}
+
+-- all bytes are kept while units go on, and none where something was met
+kept_going : (m : StreamEnd) (bytes : List ℕ) → m ≡ stream_end.Going → kept_bytes m bytes ≡ bytes
+kept_going m bytes going = ap (λ x. kept_bytes x bytes) going
+
+pub none_kept : (m : StreamEnd) (bytes : List ℕ) → (m ≡ stream_end.Going → ⊥) → kept_bytes m bytes ≡ []
+none_kept stream_end.Going bytes met = absurd (met refl)
+none_kept stream_end.Ended bytes met = refl
+none_kept (stream_end.Faulted fault) bytes met = refl
+none_kept stream_end.Stopped bytes met = refl
+
+-- what is kept is kept, and so is what is kept of more bytes
+pub kept_twice : (m : StreamEnd) (bytes : List ℕ) → kept_bytes m bytes ≡ kept_bytes m (kept_bytes m bytes)
+kept_twice stream_end.Going bytes = refl
+kept_twice stream_end.Ended bytes = refl
+kept_twice (stream_end.Faulted fault) bytes = refl
+kept_twice stream_end.Stopped bytes = refl
+
+pub kept_more : (m : StreamEnd) (there bytes : List ℕ) → there ≡ kept_bytes m there → there ++ kept_bytes m bytes ≡ kept_bytes m (there ++ kept_bytes m bytes)
+kept_more stream_end.Going there bytes none = refl
+kept_more stream_end.Ended there bytes none = append-nil there ∙ none
+kept_more (stream_end.Faulted fault) there bytes none = append-nil there ∙ none
+kept_more stream_end.Stopped there bytes none = append-nil there ∙ none
+
+-- bytes were sent
+pub passes_sent : (old new : Pushed) (bytes : List ℕ) → old.is_finished ≡ false → new.decoder ≡ old.decoder → new.there ≡ old.there ++ kept_bytes old.decoder.stream_end bytes → PushPasses old new bytes []
+passes_sent old new bytes unfinished same there = record {
+  leads = λ more may o comes.
+      let at : Comes old.decoder (Some ((old.there ++ kept_bytes old.decoder.stream_end bytes) ++ more)) o =
+      subst (λ (d : Decoding). Comes d (Some ((old.there ++ kept_bytes old.decoder.stream_end bytes) ++ more)) o) same
+      (subst (λ (xs : List ℕ). Comes new.decoder (Some (xs ++ more)) o) there comes) in
+      comes_by old.decoder ((old.there ++ kept_bytes old.decoder.stream_end bytes) ++ more) (old.there ++ (bytes ++ more)) o
+      (λ going. ap (λ (xs : List ℕ). (old.there ++ xs) ++ more) (kept_going old.decoder.stream_end bytes going) ∙ append_assoc old.there bytes more)
+      at;
+  finished = λ finished. absurd cc;
 }
 
 -- a due picture left
@@ -119,6 +171,44 @@ gives_behind (answers.Fault fault) old mid new first same moving gives =
 gives_behind answers.NoMemory old mid new first same moving gives = (gives.0 ∙ same, gives.1, gives.2)
 gives_behind answers.Stopped old mid new first same moving gives = absurd (moving gives.0)
 
+-- a decoder that goes on hasn't stopped
+going_not_stopped : (m : StreamEnd) → m ≡ stream_end.Going → m ≡ stream_end.Stopped → ⊥
+going_not_stopped m going stopped = cc
+
+-- bytes were given up where something was met
+passes_left : (old mid : Pushed) (rest : List ℕ) (given : List Picture) → rest ≡ kept_bytes mid.decoder.stream_end mid.there → PushPasses old mid [] given → PushPasses old (record mid { there = rest }) [] given
+passes_left old mid rest given is passes = record {
+  leads = λ more may o comes.
+      passes.leads more may o
+      (comes_by mid.decoder (rest ++ more) (mid.there ++ more) o (λ going. ap (λ (xs : List ℕ). xs ++ more) (is ∙ kept_going mid.decoder.stream_end mid.there going)) comes);
+  finished = passes.finished;
+}
+
+-- a turn that took a unit, and gave up the bytes where something was met
+pub turn_left : (answer : Option Answer) (old mid : Pushed) (rest : List ℕ) → old.decoder.stream_end ≡ stream_end.Going → rest ≡ kept_bytes mid.decoder.stream_end mid.there → TurnGives answer old mid → TurnGives answer old (record mid { there = rest })
+turn_left None old mid rest going is gives =
+    (passes_left old mid rest [] is gives.0, gives.1, gives.2, gives.3, gives.4, gives.5)
+turn_left (Some answers.Shown) old mid rest going is gives =
+    (gives.0, gives.1, passes_left old mid rest (gives.0 ∷ []) is gives.2, gives.3, gives.4)
+turn_left (Some answers.Needs) old mid rest going is gives = (
+  passes_left old mid rest [] is gives.0,
+  gives.1,
+  gives.2,
+  record {
+    unfinished = gives.3.unfinished;
+    no_picture = gives.3.no_picture;
+    going = gives.3.going;
+    no_unit = λ whole. gives.3.no_unit (subst IsWholeUnit (is ∙ kept_going mid.decoder.stream_end mid.there gives.3.going) whole);
+  },
+)
+turn_left (Some answers.End) old mid rest going is gives =
+    (passes_left old mid rest [] is gives.0, gives.1, gives.2, gives.3, gives.4)
+turn_left (Some (answers.Fault fault)) old mid rest going is gives =
+    (passes_left old mid rest [] is gives.0, gives.1, gives.2, gives.3, gives.4)
+turn_left (Some answers.NoMemory) old mid rest going is gives = gives
+turn_left (Some answers.Stopped) old mid rest going is gives =
+    absurd (going_not_stopped old.decoder.stream_end going gives.0)
+
 -- turns before something was met changed nothing but the picture shown, where it was met before
 abbrev pub Still : Pushed → Pushed → Type 0
 Still a mid = (a.decoder.stream_end ≡ stream_end.Going → ⊥) → mid ≡ record a { shown = None }
@@ -141,10 +231,6 @@ pub still_going : (a mid new : Pushed) → Still a mid → mid.decoder.stream_en
 still_going a mid new still going ne =
     let same = still ne in
     absurd (ne (sym (ap (λ (x : Pushed). x.decoder.stream_end) same) ∙ going))
-
--- a decoder that goes on hasn't stopped
-going_not_stopped : (m : StreamEnd) → m ≡ stream_end.Going → m ≡ stream_end.Stopped → ⊥
-going_not_stopped m going stopped = cc
 
 -- what a step gives, as a turn
 abbrev pub Steps : Option Next → Pushed → Pushed → Type 0

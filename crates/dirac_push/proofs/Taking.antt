@@ -16,7 +16,7 @@ use Rattle.dirac_content.specs.Leaving.{leaving, leaving_on}
 use Rattle.dirac_decode.specs.Decoding.{Decoding}
 use Rattle.dirac_decode.specs.Stepping.{DueGives, FaultsAt, TakesAs, TakesOne, StepTakesUnit, given_by, opened_sequence}
 use Rattle.dirac_content.specs.StreamState.{StreamState, StreamStep, unit_step}
-use Rattle.dirac_push.specs.Pushing.{AreTaken, IsFormat, MeetsBehind, Pushed, TakesSilently, TakesUnits, latest, opened_last, opened_on}
+use Rattle.dirac_push.specs.Pushing.{AreTaken, IsFormat, MeetsBehind, Pushed, TakesSilently, TakesUnits, kept_bytes, latest, opened_last, opened_on}
 
 -- ---- units behind units
 
@@ -239,6 +239,34 @@ pub silent_one : (old new : Pushed) → old.decoder.stream_end ≡ stream_end.Go
     → new.format ≡ latest (opened_sequence new.decoder.state.opened) old.format → TakesOne None old.decoder new.decoder (Some old.there) (Some new.there) → TakesSilently old new
 silent_one old new going none_due before none kept format one =
     silent_by new.decoder.stream_end old new refl going none_due before none kept format one
+
+-- ---- bytes that are given up where something was met
+
+meets_left : (m : StreamEnd) (new : Pushed) (left : List ℕ) (p : UnitPlace) (s : StreamState) (rest : List ℕ) → left ≡ kept_bytes m new.there → MeetsBehind m new p s rest → MeetsBehind m (record new { there = left }) p s rest
+meets_left stream_end.Going new left p s rest is meets = (meets.0, meets.1, meets.2 ∙ sym is)
+meets_left stream_end.Ended new left p s rest is meets = meets
+meets_left (stream_end.Faulted fault) new left p s rest is meets = meets
+meets_left stream_end.Stopped new left p s rest is meets = meets
+
+pub takes_left : (old mid : Pushed) (left : List ℕ) → left ≡ kept_bytes mid.decoder.stream_end mid.there → TakesUnits old mid → TakesUnits old (record mid { there = left })
+takes_left old mid left is takes = record {
+  units = takes.units;
+  unit_place = takes.unit_place;
+  state = takes.state;
+  rest = takes.rest;
+  taken = takes.taken;
+  format = takes.format;
+  met = λ going.
+      meets_left mid.decoder.stream_end mid left takes.unit_place takes.state takes.rest is (takes.met going);
+  still = takes.still;
+  up_to = takes.up_to;
+  none_left = takes.none_left;
+}
+
+pub silent_left : (old mid : Pushed) (left : List ℕ) → left ≡ kept_bytes mid.decoder.stream_end mid.there → TakesSilently old mid → TakesSilently old (record mid { there = left })
+unfolding takes_left
+silent_left old mid left is silent =
+    record { takes = takes_left old mid left is silent.takes; due = silent.due }
 
 -- ---- one call and then another
 

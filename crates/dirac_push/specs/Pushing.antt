@@ -40,6 +40,17 @@ push_begun = record {
   format = None;
 }
 
+-- of bytes sent or there those that are kept: all while units go on, none once an end, a fault or a stop was met
+abbrev pub kept_bytes : StreamEnd → List ℕ → List ℕ
+kept_bytes stream_end.Going bytes = bytes
+kept_bytes stream_end.Ended bytes = []
+kept_bytes (stream_end.Faulted fault) bytes = []
+kept_bytes stream_end.Stopped bytes = []
+
+-- the bytes there are just those that are kept, so none is once an end, a fault or a stop was met
+abbrev pub HoldsJustKept : Pushed → Type 0
+HoldsJustKept p = p.there ≡ kept_bytes p.decoder.stream_end p.there
+
 -- these bytes may still be sent: none, once it was said that none follows
 abbrev pub MayFollow : Pushed → List ℕ → Type 0
 MayFollow p more = p.is_finished ≡ true → more ≡ []

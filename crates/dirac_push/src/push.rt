@@ -1,10 +1,10 @@
-ghost use Rattle.std.specs.Prelude.{◌≡◌, ◌<◌, ◌^◌, ◌↔◌, [], ◌++◌, ◌+◌, true, false, length, IfErr, IfOk};
+ghost use Rattle.std.specs.Prelude.{◌≡◌, ◌<◌, ◌≤◌, ◌^◌, ◌↔◌, [], ◌++◌, ◌+◌, true, false, length, IfErr, IfOk};
 ghost use Rattle.std.specs.Prelude.{IfSome, None, Some, Err, Option};
 ghost use Rattle.std.specs.Prelude.{option_map};
 ghost use Rattle.std.specs.Borrow.{Bor};
 ghost use Rattle.dirac_decode.specs.Stepping.{IsWholeUnit};
 ghost use Rattle.dirac_push.specs.Pushing.{push_begun, IsFormat, PushPasses, PushGives, RepeatsAnswer, TakesUnits};
-ghost use Rattle.dirac_push.specs.Pushing.{TakesSilently, TurnGives};
+ghost use Rattle.dirac_push.specs.Pushing.{HoldsJustKept, TakesSilently, TurnGives, kept_bytes};
 ghost use Rattle.dirac_push.specs.Pushing as pushing;
 
 use crate::answer::{Answer, Unsent};
@@ -33,7 +33,7 @@ pub struct PushDecoder {
 impl Model for PushDecoder {
     ghost use Rattle.std.specs.Prelude.{◌≡◌, ◌+◌, ◌<◌, ◌^◌, []};
     ghost use Rattle.dirac_push.specs.Queued.{count_waiting};
-    ghost use Rattle.dirac_push.specs.Pushing.{IsFormat, Pushed};
+    ghost use Rattle.dirac_push.specs.Pushing.{IsFormat, Pushed, kept_bytes};
 
     ghost Value = { Pushed };
 
@@ -48,7 +48,8 @@ impl Model for PushDecoder {
 
     ghost invariant = { λ d. (d.decoder.units.ahead ≡ [])
         × (d.decoder.units.unit_place.at + count_waiting d.queue + d.room < 2 ^ 63)
-        × IsFormat d.decoder.state.opened d.format };
+        × IsFormat d.decoder.state.opened d.format
+        × (d.queue ≡ kept_bytes d.decoder.stream_end d.queue) };
 }
 
 impl PushDecoder {
@@ -66,11 +67,16 @@ impl PushDecoder {
         }
     }
 
-    /// Adds bytes behind those that were sent: any number, cut anywhere. They are copied; after an error none is.
+    /// Adds bytes behind those that were sent: any number, cut anywhere. They are copied; after an error none is. Once
+    /// the end, a fault or want of memory was met they are counted and not kept. Till then a decoder holds the bytes
+    /// sent and not yet taken, up to a whole unit: also one that is only passed over, of 4 GiB by its parse info.
+    #[tactic(auto, using(crate::proofs::Passing::passes_sent, crate::proofs::Passing::kept_more))]
     pub fn send(&mut self, bytes: &[u8]) -> Result<(), Unsent>
         ensures sent { IfOk result (λ _. PushPasses self.old self.new bytes.now []) }
-        ensures added { IfOk result (λ _. self.new
-            ≡ record self.old { there = self.old.there ++ bytes.now; room = self.new.room }) }
+        ensures added { IfOk result (λ _. self.new ≡ record self.old {
+          there = self.old.there ++ kept_bytes self.old.decoder.stream_end bytes.now;
+          room = self.new.room;
+        }) }
         ensures room { IfOk result (λ _. self.new.room + length bytes.now ≡ self.old.room) }
         ensures unsent { IfErr result (λ _. self.new ≡ self.old) }
         ensures exactly_when_finished { (result ≡ Err Unsent.Finished) ↔ (self.old.is_finished ≡ true) }
@@ -81,7 +87,7 @@ impl PushDecoder {
         if bytes.len() as u64 > self.room {
             return Err(Unsent::NoMemory);
         }
-        match self.queue.add(bytes) {
+        match self.queue.add(kept(self.decoder.stream_end(), bytes)) {
             Ok(()) => {
                 self.room -= bytes.len() as u64;
                 Ok(())
@@ -125,6 +131,7 @@ impl PushDecoder {
         ensures takes { TakesUnits self.old self.new }
         ensures repeats { RepeatsAnswer result self.old self.new }
         ensures finished_stays { self.new.is_finished ≡ self.old.is_finished }
+        ensures given_up { HoldsJustKept self.new }
         // Bytes that were taken make no room for others.
         ensures room_stays { self.new.room ≡ self.old.room }
     {
@@ -149,6 +156,7 @@ impl PushDecoder {
         ensures silent { result ≡ None → TakesSilently self.old self.new }
         ensures repeats { IfSome result (λ answer. RepeatsAnswer answer self.old self.new) }
         ensures fits { self.new.decoder.units.unit_place.at < 2 ^ 63 }
+        ensures given_up { HoldsJustKept self.new }
         ensures finished_stays { self.new.is_finished ≡ self.old.is_finished }
         ensures room_stays { self.new.room ≡ self.old.room }
     {
@@ -172,7 +180,8 @@ impl PushDecoder {
         self.take_unit()
     }
 
-    /// Takes a unit.
+    /// Takes a unit, and gives up the bytes behind it where something was met.
+    #[tactic(auto, using(crate::proofs::Passing::kept_twice))]
     fn take_unit(&mut self) -> Option<Answer>
         requires going { self.old.decoder.stream_end ≡ StreamEnd.Going }
         requires none_due { self.old.decoder.due ≡ [] }
@@ -182,11 +191,13 @@ impl PushDecoder {
         ensures takes { TakesUnits self.old self.new }
         ensures silent { result ≡ None → TakesSilently self.old self.new }
         ensures fits { self.new.decoder.units.unit_place.at < 2 ^ 63 }
+        ensures given_up { HoldsJustKept self.new }
         ensures finished_stays { self.new.is_finished ≡ self.old.is_finished }
         ensures room_stays { self.new.room ≡ self.old.room }
     {
         let step = self.decoder.step(&mut self.queue);
         self.format = latest(self.decoder.sequence(), self.format);
+        self.queue.give_up(self.decoder.stream_end());
         match step {
             None => None,
             Some(Next::Shown(picture)) => {
@@ -198,6 +209,17 @@ impl PushDecoder {
             Some(Next::NoMemory) => Some(Answer::NoMemory),
             Some(Next::ReadFault | Next::Stopped) => unreachable!(),
         }
+    }
+}
+
+/// Of bytes that are sent, those that are kept.
+fn kept(stream_end: StreamEnd, bytes: &[u8]) -> &[u8]
+    ensures value { result.now ≡ kept_bytes stream_end bytes.now }
+    ensures no_longer { length result.now ≤ length bytes.now }
+{
+    match stream_end {
+        StreamEnd::Going => bytes,
+        StreamEnd::Ended | StreamEnd::Faulted(_) | StreamEnd::Stopped => &bytes[..0],
     }
 }
 

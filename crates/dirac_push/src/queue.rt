@@ -4,11 +4,12 @@ ghost use Rattle.dirac_io.specs.Faults.{Rose};
 ghost use Rattle.dirac_io.specs.Reading.{IfBytes, GivesFront, MeetsEnd};
 ghost use Rattle.std.specs.Io.KnownBytes.{Keeps};
 ghost use Rattle.dirac_decode.specs.Stepping.{IsWholeUnit};
+ghost use Rattle.dirac_push.specs.Pushing.{kept_bytes};
 ghost use Rattle.dirac_push.specs.Queued.{count_fits, count_waiting, none_fits};
 
 use dirac_common::NoMemory;
 use dirac_io::{Got, Source};
-use dirac_units::{PARSE_INFO_LENGTH, read_info};
+use dirac_units::{PARSE_INFO_LENGTH, StreamEnd, read_info};
 use std::alloc::Global;
 use std::marker::Model;
 
@@ -62,6 +63,17 @@ impl Queue {
         self.bytes.as_mut_slice().copy_within(self.from..len, 0);
         self.bytes.truncate(rest);
         self.from = 0;
+    }
+
+    /// Gives up the bytes there, with their memory, where an end, a fault or a stop was met.
+    #[tactic(auto, using(crate::proofs::Passing::none_kept))]
+    pub(crate) fn give_up(&mut self, stream_end: StreamEnd)
+        ensures { self.new ≡ kept_bytes stream_end self.old }
+    {
+        if let StreamEnd::Going = stream_end {
+            return;
+        }
+        *self = Queue::new(*self.bytes.allocator());
     }
 
     /// Whether the next unit is there as a whole, or its parse info is, which is refused.

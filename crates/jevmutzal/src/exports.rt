@@ -2,7 +2,7 @@
 ghost use Rattle.std.specs.Prelude.{◌≡◌, ◌⊎◌, true, false, option_map};
 ghost use Rattle.std.specs.Borrow.{Bor};
 ghost use Rattle.dirac_common.specs.Table.{Table};
-ghost use Rattle.dirac_push.specs.Pushing.{push_begun};
+ghost use Rattle.dirac_push.specs.Pushing.{HoldsJustKept, push_begun};
 ghost use Rattle.jevmutzal.specs.Describing.{CopiesShown, TellsFormat, TellsNext, empty_frame};
 ghost use Rattle.jevmutzal.specs.Describing.{frame_told, plane_numbered as numbered, shown_frame as shown};
 ghost use Rattle.jevmutzal.specs.Numbers.{number_of_answer};
@@ -53,7 +53,8 @@ pub extern "C" fn jev_decoder_close(alloc: Global, decoder: &mut Handle)
     *decoder = Handle::closed(alloc);
 }
 
-/// Adds bytes of the stream: any number, cut anywhere. They are copied.
+/// Adds bytes of the stream: any number, cut anywhere. They are copied; once a fault or want of memory was met they are
+/// counted and not kept.
 #[unsafe(no_mangle)]
 pub extern "C" fn jev_decoder_send(alloc: Global, decoder: &mut Handle, bytes: &[u8]) -> i32
     ensures open { decoder.new.is_open ≡ decoder.old.is_open }
@@ -95,6 +96,7 @@ pub extern "C" fn jev_decoder_next(alloc: Global, decoder: &mut Handle, frame: &
     ensures closed { decoder.old.is_open ≡ false → (result ≡ CLOSED) × (frame.new ≡ empty_frame) }
     ensures next { decoder.old.is_open ≡ true
         → TellsNext result frame.new decoder.old.decoder decoder.new.decoder }
+    ensures given_up { decoder.old.is_open ≡ true → HoldsJustKept decoder.new.decoder }
 {
     *frame = Frame::empty();
     match replace(decoder, Handle::closed(alloc)).into_box() {
@@ -189,7 +191,8 @@ fn send_to(decoder: &mut PushDecoder, bytes: &[u8]) -> i32
 /// Asks what comes next, and tells the answer.
 #[tactic(auto, using(crate::proofs::Telling::tells))]
 fn next_of(decoder: &mut PushDecoder, frame: &mut Frame) -> i32
-    ensures { TellsNext result frame.new decoder.old decoder.new }
+    ensures told { TellsNext result frame.new decoder.old decoder.new }
+    ensures given_up { HoldsJustKept decoder.new }
 {
     let answer = decoder.next();
     *frame = frame_of(answer, decoder);

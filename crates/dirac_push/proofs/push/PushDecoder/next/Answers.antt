@@ -47,5 +47,6 @@ returns-in-Some c = record {
   takes = takes_on c.args.self.now c.units.self c.turn.new.self c.units.invariant.moving c.units.invariant.silent c.in-Some.ensures.takes;
   repeats = repeats_behind c.in-Some.answer c.args.self.now c.units.self c.turn.new.self c.units.invariant.still c.in-Some.ensures.repeats;
   finished_stays = c.in-Some.ensures.finished_stays ∙ c.units.invariant.finished;
+  given_up = c.in-Some.ensures.given_up;
   room_stays = c.in-Some.ensures.room_stays ∙ c.units.invariant.room;
 }
