@@ -1,6 +1,6 @@
 //! A picture, coded with the least quantiser index by which its unit fits a budget.
 
-ghost use Rattle.std.specs.Prelude.{◌≡◌, ◌<◌, true, IfOk};
+ghost use Rattle.std.specs.Prelude.{◌≡◌, ◌<◌, ◌≤◌, true, None, Ok, IfOk, IfSome};
 ghost use Rattle.std.specs.List.{AllByRecursion};
 ghost use Rattle.dirac_common.specs.Limits.{IsIndex};
 ghost use Rattle.dirac_types.specs.Settings.{IsAccepted};
@@ -15,7 +15,7 @@ ghost use Rattle.dirac_encode.specs.Asked.{HasChosenBlocks, asked_job};
 
 use dirac_common::{LARGEST_INDEX, NoMemory, Picture, RowGate};
 use dirac_encode_laws::Coded;
-use dirac_encode_picture::{Asked, Prepared, code_prepared, prepare_picture};
+use dirac_encode_picture::{Asked, Prepared, code_prepared, code_within, prepare_picture};
 use dirac_plan::Planned;
 use dirac_refs::RefBuffer;
 use dirac_types::Settings;
@@ -41,6 +41,40 @@ fn code_at(
     code_prepared(alloc, prepared, asked, index)
 }
 
+/// Codes a prepared picture with this quantiser index where its unit has at most `budget` bytes; none where it is
+/// longer, and then what decoders would show isn't made.
+fn code_in_budget(
+    alloc: Global,
+    prepared: &Prepared,
+    asked: &Asked<'_>,
+    index: u8,
+    budget: u32,
+) -> Result<Option<Coded>, NoMemory>
+    requires prepared { IsPreparedFor asked.now prepared.now }
+    requires blocks { HasChosenBlocks asked.now prepared.now }
+    requires index { IsIndex index }
+    ensures payload { IfOk result (λ r. IfSome r (λ c. c.payload.items
+        ≡ (made (at_index asked.now.settings.now index) asked.now.refs.now (asked_job asked.now)).payload)) }
+    ensures shown { IfOk result (λ r. IfSome r (λ c. c.shown
+        ≡ (made (at_index asked.now.settings.now index) asked.now.refs.now (asked_job asked.now)).shown)) }
+    ensures fits { IfOk result (λ r. IfSome r (λ _.
+        length_at asked.now.settings.now asked.now.refs.now (asked_job asked.now) index ≤ budget)) }
+    ensures long { result ≡ Ok None →
+        budget < length_at asked.now.settings.now asked.now.refs.now (asked_job asked.now) index }
+{
+    let parse_info = PARSE_INFO_LENGTH as u32;
+    if budget < parse_info {
+        return Ok(None);
+    }
+    code_within(
+        alloc,
+        prepared,
+        asked,
+        index,
+        u64::from(budget - parse_info),
+    )
+}
+
 /// Codes a prepared picture with the least index, from the settings' on, by which its unit fits the budget, or with the
 /// last. Lengths need not fall as the index grows, so each index is tried in turn.
 fn fit_by(
@@ -61,8 +95,7 @@ fn fit_by(
         ≡ (made (at_index asked.now.settings.now r.1) asked.now.refs.now (asked_job asked.now)).shown) }
 {
     'indices: for index in asked.settings.index as u8..LARGEST_INDEX as u8 {
-        let coded = code_at(alloc, prepared, asked, index)?;
-        if (PARSE_INFO_LENGTH + coded.payload.len()) as u64 <= u64::from(budget) {
+        if let Some(coded) = code_in_budget(alloc, prepared, asked, index, budget)? {
             return Ok((coded, index));
         }
     }
@@ -73,7 +106,8 @@ fn fit_by(
 
 /// Codes a picture as it is planned, with the least quantiser index, from the settings' on, by which its unit, 13 bytes
 /// of parse info and its payload, has at most `budget` bytes, and with the last where there is none: its payload, the
-/// picture that decoders show for it, and the index. Blocks, prediction and analysis are made once for all indices.
+/// picture that decoders show for it, and the index. Blocks, prediction and analysis are made once for all indices;
+/// what decoders show is made at the index that is taken.
 pub fn fit_picture<R: Threads + Sync, G: RowGate>(
     rt: &R,
     alloc: Global,

@@ -10,6 +10,7 @@ mod picture;
 mod predictions;
 mod prepared;
 mod transform;
+mod within;
 mod workers;
 
 pub use asked::Asked;
@@ -18,3 +19,4 @@ pub use dirac_encode_laws::Coded;
 pub use dirac_motion::choose_blocks;
 pub use picture::{code_prepared, code_with_blocks};
 pub use prepared::{Prepared, prepare};
+pub use within::code_within;

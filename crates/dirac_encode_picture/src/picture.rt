@@ -32,7 +32,7 @@ use dirac_types::Settings;
 use std::alloc::Global;
 
 /// Bytes are below 256.
-fn are_bytes(bytes: &[u8])
+pub(crate) fn are_bytes(bytes: &[u8])
     ensures { AllByRecursion (λ b. b < 2 ^ 8) bytes.now }
 {}
 

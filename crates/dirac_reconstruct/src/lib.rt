@@ -7,4 +7,4 @@ mod parts;
 mod planes;
 mod showing;
 
-pub use showing::{Compensated, Finished, Finishing, finish, finish_side_by_side};
+pub use showing::{Compensated, Finished, Finishing, finish, finish_side_by_side, show};

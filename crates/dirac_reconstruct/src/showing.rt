@@ -42,7 +42,7 @@ pub struct Finishing<'a> {
 }
 
 /// The picture that decoders show for a coded picture.
-fn show(alloc: Global, from: &Finishing<'_>) -> Result<Picture, NoMemory>
+pub fn show(alloc: Global, from: &Finishing<'_>) -> Result<Picture, NoMemory>
     requires { IsFinishable from.now }
     ensures { IfOk result (λ p. p ≡ rebuilt from.now.sequence.now from.now.refs.now from.now.coded.now) }
 {
