@@ -115,8 +115,9 @@ int32_t jev_decoder_open(jev_decoder *decoder);
 
 /* Sends the next bytes of the stream: any number, also 0, cut anywhere. They are copied, so `bytes` stays the caller's.
  * Behind the stream's first fault, and once next answered JEV_NO_MEMORY, they are counted and not kept, and change
- * nothing of what next answers. Till then a decoder holds the bytes sent and not yet taken, up to a whole unit, also
- * one that is only passed over, which may have 4 GiB by its header. JEV_OK, or with no byte taken JEV_NO_MEMORY (they
+ * nothing of what next answers. Till then a decoder holds all that was sent and not yet taken, and at most as many
+ * taken bytes: where next is asked until JEV_NEEDS, less than a unit, though also of one that is only passed over,
+ * which may have 4 GiB by its header. JEV_OK, or with no byte taken JEV_NO_MEMORY (they
  * may be sent again; also where they would be more than INT64_MAX in all), JEV_FINISHED or JEV_CLOSED. */
 int32_t jev_decoder_send(jev_decoder *decoder, const uint8_t *bytes, size_t length);
 

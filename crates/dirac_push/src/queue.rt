@@ -46,20 +46,24 @@ impl Queue {
         ensures added { IfOk result (λ _. self.new ≡ self.old ++ bytes.now) }
         ensures no_memory { IfErr result (λ _. self.new ≡ self.old) }
     {
+        if self.from >= self.bytes.len() - self.from {
+            self.close_gap();
+        }
+        if self.bytes.extend_from_slice(bytes).is_ok() {
+            return Ok(());
+        }
         self.close_gap();
         self.bytes.extend_from_slice(bytes)?;
         Ok(())
     }
 
-    /// Drops the bytes that were taken, where those left are no more: so a byte is moved at most once on the average.
+    /// Drops the bytes that were taken. Where it is done as soon as those left are no more, a byte is moved at most once
+    /// on the average.
     fn close_gap(&mut self)
         ensures { self.new ≡ self.old }
     {
         let len = self.bytes.len();
         let rest = len - self.from;
-        if self.from < rest {
-            return;
-        }
         self.bytes.as_mut_slice().copy_within(self.from..len, 0);
         self.bytes.truncate(rest);
         self.from = 0;
