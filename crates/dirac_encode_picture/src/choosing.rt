@@ -29,8 +29,8 @@ use dirac_types::Settings;
 use std::alloc::Global;
 use std::thread::Threads;
 
-/// Prepares an inter picture. Its references are looked up, and their luma is upconverted once: the search, the choice
-/// of modes and the prediction are lent it.
+/// Prepares an inter picture. Its references are looked up, and their luma is upconverted once where it isn't kept: the
+/// search, the choice of modes and the prediction are lent it.
 fn prepare_searched<R: Threads + Sync, G: RowGate>(
     rt: &R,
     alloc: Global,

@@ -34,7 +34,8 @@ fn predict_luma(alloc: Global, from: &Predicting<'_>) -> Result<Predicted, NoMem
     }
 }
 
-/// Predicts a plane as decoders do. For chroma the references are upconverted: this is done once a picture.
+/// Predicts a plane as decoders do. For chroma a reference that doesn't keep its half samples is upconverted, once a
+/// picture.
 fn predict_plane(
     alloc: Global,
     from: &Predicting<'_>,

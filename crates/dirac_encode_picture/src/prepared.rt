@@ -141,7 +141,8 @@ pub(crate) fn prepare_by<W: Workers>(
     }
 }
 
-/// Prepares an inter picture by this block table. Its references are looked up, and their luma is upconverted.
+/// Prepares an inter picture by this block table. Its references are looked up, and their luma is upconverted where it
+/// isn't kept.
 fn prepare_looked_up(
     alloc: Global,
     asked: &Asked<'_>,

@@ -77,7 +77,7 @@ fn luma_of<'a>(alloc: Global, listed: &'a Listed) -> Result<Luma<'a>, NoMemory>
     }
 }
 
-/// The luma of two references, upconverted side by side.
+/// The luma of two references, upconverted side by side where it isn't kept.
 fn lumas_side_by_side<'a, R: Threads + Sync>(
     rt: &R,
     alloc: Global,

@@ -1,7 +1,7 @@
 #![tactic(auto)]
 
 //! The block table of an inter picture, from its references: the motion search in each of them, then the choice of
-//! modes and splits. Pyramids and upconverted luma are made once a picture.
+//! modes and splits. Pyramids are made once a picture, and upconverted luma where its reference doesn't keep it.
 
 mod choose;
 mod laws;

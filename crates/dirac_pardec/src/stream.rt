@@ -56,7 +56,7 @@ pub fn decode_rows<R: Threads + Sync, S: Source, K: Sink, G: RowGate>(
     let lot = Lot::new();
     let pictures = pictures_ahead(workers);
     if pictures == 0 {
-        return decode_over(&crew, &lot, alloc, source, out);
+        return decode_by_crew(&crew, &lot, alloc, source, out);
     }
     let Finished { answer, source } = decode_reading_ahead::<R, S, K, G, Brand>(
         &crew,
@@ -93,8 +93,8 @@ fn pictures_ahead(workers: u32) -> u32 {
 /// The most bytes that are read ahead.
 const MOST_AHEAD: usize = 1 << 25;
 
-/// Decodes a whole stream, as `decode_rows`, with what was read ahead of it.
-fn decode_over<R: Threads + Sync, S: Source, K: Sink, G: RowGate>(
+/// Decodes a whole stream, as `decode_rows`, from a source that may show this lot the units that it reads ahead.
+fn decode_by_crew<R: Threads + Sync, S: Source, K: Sink, G: RowGate>(
     crew: &Crew<R, G>,
     lot: &Lot,
     alloc: Global,
@@ -109,6 +109,7 @@ fn decode_over<R: Threads + Sync, S: Source, K: Sink, G: RowGate>(
     // Whatever front of the bytes left is read too, what was written is a front of what the bytes read then show.
     ensures front_of_more { IfSome (S.held source.old) (λ bytes. IsFrontOfMore bytes (S.held source.new)
         (K.taken out.old) (K.taken out.new)) }
+    // Whatever is answered, what was written is a front of what the bytes read show by themselves.
     ensures front_of_read { IfSome (S.held source.old) (λ bytes. IsFrontOfRead bytes (S.held source.new)
         (K.taken out.old) (K.taken out.new)) }
     ensures whole { IfDone result (IsAtEnd (S.held source.new)) }
@@ -168,7 +169,7 @@ fn decode_reading_ahead<'a, R: Threads + Sync, S: Source, K: Sink, G: RowGate, B
         most: MOST_AHEAD,
     };
     let mut ahead = Ahead::<S, Lot, B>::new(alloc, lent, lot, plan);
-    let answer = decode_over(crew, lot, alloc, &mut ahead, out);
+    let answer = decode_by_crew(crew, lot, alloc, &mut ahead, out);
     Finished {
         answer,
         source: ahead.into_source(),

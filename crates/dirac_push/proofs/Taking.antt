@@ -151,7 +151,7 @@ held_at ahead there rest none is =
     let both : Some rest ≡ Some there = sym is ∙ at in
     cc
 
--- the course stays, so no other sequence was opened
+-- the state stays, so no other sequence was opened
 stays : (old new : Pushed) (m : StreamEnd) → old.decoder.stream_end ≡ stream_end.Going → old.decoder.due ≡ [] → new.decoder.stream_end ≡ m → new.decoder.state.opened ≡ old.decoder.state.opened → IsFormat old.decoder.state.opened old.format
     → new.format ≡ latest (opened_sequence new.decoder.state.opened) old.format → MeetsBehind m new old.decoder.units.unit_place old.decoder.state old.there → TakesUnits old new
 stays old new m going none_due is opened kept format meets = record {

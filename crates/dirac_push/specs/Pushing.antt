@@ -120,7 +120,7 @@ opened_last before state (unit ∷ units) =
     opened_on (λ next. opened_last (latest (opened_sequence next.opened) before) next units) before
     (unit_step state unit.info.code unit.payload)
 
--- these units stand at the front of these bytes, and each is accepted; behind them the course is this one, and these
+-- these units stand at the front of these bytes, and each is accepted; behind them the state is this one, and these
 -- bytes are left
 abbrev pub AreTaken : UnitPlace → StreamState → List ℕ → List UnitText → UnitPlace → StreamState → List ℕ → Type 0
 AreTaken unit_place state bytes [] unit_place' state' rest =
@@ -130,7 +130,7 @@ AreTaken unit_place state bytes (unit ∷ units) unit_place' state' rest =
     × AreTaken (after unit_place unit.info) m.state (drop (span_of unit.info) bytes) units unit_place' state' rest
 
 -- what was met behind the units that were taken: nothing yet, or that end or fault stands there; or memory was wanting,
--- and the course is what they brought
+-- and the state is what they brought
 abbrev pub MeetsBehind : StreamEnd → Pushed → UnitPlace → StreamState → List ℕ → Type 0
 MeetsBehind stream_end.Going new unit_place state rest =
     (unit_place ≡ new.decoder.units.unit_place) × (state ≡ new.decoder.state) × (rest ≡ new.there)

@@ -128,9 +128,9 @@ fn claimed_by_all<
     (seat, put_together(ours, theirs))
 }
 
-/// The answers of `work` on each row below `rows`, in the order of the rows. So many workers, but no more than there are
-/// rows, claim the rows one by one, and each passes the gate before it works on a row. Where a thread can't be had, its
-/// part is done by the caller.
+/// The answers of `work` on each row below `rows`, in the order of the rows. So many workers, but no more than there
+/// are rows, claim the rows one by one, and each passes the gate before it works on a row. Where a thread can't be had,
+/// its part is done by the caller.
 pub fn map_rows<
     R: Threads + Sync,
     T: Send + Drop,

@@ -1,7 +1,7 @@
 ghost use Rattle.std.specs.Prelude.{◌≡◌, ℕ, ◌∷◌, ◌<◌, length};
 ghost use Rattle.dirac_rows.specs.Answers.{AnswerRows};
 
-/// Takes the first of these.
+/// Takes the first item of a list.
 pub fn take_first<T: Drop>(items: &mut Vec<T>) -> T
     requires { 0 < length items.old.items }
     ensures { items.old.items ≡ result ∷ items.new.items }

@@ -129,7 +129,7 @@ pub struct Settings {
     pub pyramid: u32,
     /// What a bit costs, in absolute differences.
     pub bias: u32,
-    /// How many workers search; they change no byte.
+    /// How many workers share the work on pictures; they change no byte.
     pub workers: u32,
     /// The most pictures that are coded.
     pub pictures: u32,

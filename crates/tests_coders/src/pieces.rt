@@ -85,7 +85,7 @@ fn a_wrong_prefix_is_a_fault_at_its_thirteenth_byte(rt: HostRuntime) -> Result<(
         cause: Cause::BadPrefix,
     };
     assert_eq!(rt; decoder.next(), Answer::Fault(wrong));
-    // Bytes behind it are counted and not kept, and change nothing.
+    // Bytes behind it change nothing.
     let behind = (decoder.send(&SMALL), decoder.next());
     assert_eq!(rt; behind, (Ok(()), Answer::Fault(wrong)));
     Ok(())
