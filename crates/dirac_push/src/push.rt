@@ -67,10 +67,10 @@ impl PushDecoder {
         }
     }
 
-    /// Adds bytes behind those that were sent: any number, cut anywhere. They are copied; after an error none is. Once a
-    /// fault or want of memory was met they are counted and not kept. Till then a decoder holds all that was sent and
-    /// not yet taken, and at most as many taken bytes: where `next` is asked until it answers `Needs`, less than a unit,
-    /// though also of one that is only passed over, which may have 4 GiB by its parse info.
+    /// Adds bytes behind those that were sent: any number, cut anywhere. They are copied; after an error none is. Once
+    /// a fault or want of memory was met they are counted and not kept. Till then a decoder holds all that was sent and
+    /// not yet taken, and at most as many taken bytes: where `next` is asked until it answers `Needs`, less than a
+    /// unit, though also of one that is only passed over, which may have 4 GiB by its parse info.
     #[tactic(auto, using(crate::proofs::Passing::passes_sent, crate::proofs::Passing::kept_more))]
     pub fn send(&mut self, bytes: &[u8]) -> Result<(), Unsent>
         ensures sent { IfOk result (λ _. PushPasses self.old self.new bytes.now []) }

@@ -57,8 +57,8 @@ impl Queue {
         Ok(())
     }
 
-    /// Drops the bytes that were taken. Where it is done as soon as those left are no more, a byte is moved at most once
-    /// on the average.
+    /// Drops the bytes that were taken. Where it is done as soon as those left are no more, a byte is moved at most
+    /// once on the average.
     fn close_gap(&mut self)
         ensures { self.new ≡ self.old }
     {
