@@ -30,7 +30,7 @@ struct Filled {
 fn fill_piece<S: Source>(source: &mut S, piece: &mut [u8]) -> Filled
     ensures read { Consumes (S.held source.old) (S.held source.new) (take result.count piece.new) }
     ensures at_most_the_piece { result.count ≤ length piece.new }
-    ensures whole { result.grown ≡ Grown.Whole → result.count ≡ length piece.new }
+    ensures filled_where_whole { result.grown ≡ Grown.Whole → result.count ≡ length piece.new }
     ensures left_never_rises { result.count + S.left source.new ≤ S.left source.old }
     ensures none_taken { result.count ≡ 0 → (result.grown ≡ Grown.Failed → ⊥)
         → S.left source.new ≡ S.left source.old }

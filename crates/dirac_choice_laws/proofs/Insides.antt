@@ -39,7 +39,7 @@ record IsSized (s : Settings) (p : Picture) : Type 0 where
   across : p.y.width ≡ (sequence_of s).width
   down : p.y.height ≡ picture_height (sequence_of s)
 
--- the blocks of a picture of that size
+-- the blocks of a picture whose luma has this width and height
 abbrev sized : Settings → ℕ → ℕ → PictureBlocks
 sized s width height = record {
   grid = grid_of s.blocks;
@@ -72,7 +72,7 @@ chosen_inside s refs q p is inter some =
 
 -- ---- what is coded
 
--- whichever index the rule gives
+-- the vectors of a picture's motion keep inside, whichever index the rule gives
 motion_inside : (t : Settings) (refs : List Picture) (q : Planned) (p : Picture) (index : ℕ) (intra : Bool) → IsAccepted t → IsSized t p → (t.alike ≡ 0 → ⊥)
     → IfSome (if intra then None else Some (motion_with t (chosen (at_index t index) refs q p))) (λ (m : CodedMotion). VectorsKeepInside (blocks_of_pictures t) t.precision m.blocks)
 unfolding chosen
@@ -81,7 +81,7 @@ motion_inside t refs q p index false a is some =
     subst (λ (b : BlockTable). VectorsKeepInside (blocks_of_pictures t) t.precision b) (sym (chosen_same t index refs q p))
     (among_inside t p (named refs q.ref1) (named refs q.ref2) a is some)
 
--- one after another
+-- the vectors of pictures that are coded one after another keep inside
 all_inside : (f : IndexRule) (t : Settings) (pictures refs : List Picture) (qs : List Planned) → IsAccepted t → (t.alike ≡ 0 → ⊥)
     → AllByRecursion (IsSized t) pictures → AllByRecursion (λ (q : Planned). q.number < length pictures) qs
     → HaveVectorsInside f t refs (map (job_of pictures) qs)

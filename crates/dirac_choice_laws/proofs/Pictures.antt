@@ -32,7 +32,7 @@ first_found : (refs : List Picture) (q : Planned) → IsPlanned q → are_listed
 first_found refs q is found inter =
     found_is refs q.ref1 (is.references.first ∙ is.predicted inter) (and_parts (is_listed refs q.ref1) (is_listed refs q.ref2) found).0
 
--- the table that is chosen with these references
+-- the table that is chosen with these references costs least
 from_least : (t : Settings) (p first : Picture) (second : Option Picture) → CostsLeast t p first second (blocks_from t p first second)
 from_least t p first second = record {
   decided = tables_least (decided_among t p first second);
@@ -40,7 +40,7 @@ from_least t p first second = record {
   second_field = λ r e. fields_cost_least (searched_in t p r) t;
 }
 
--- with the first reference as it is found
+-- an inter picture's table costs least with the first reference as it is found
 among_least : (t : Settings) (refs : List Picture) (j : Job) (m : Made) (o : Option Picture) → named refs j.planned.ref1 ≡ o → (named refs j.planned.ref1 ≡ None → ⊥)
     → m.coded.motion ≡ Some (motion_with t (blocks_among t j.source o (named refs j.planned.ref2))) → IsLeastInter t refs j m
 among_least t refs j m None e some is = absurd (some e)
@@ -67,7 +67,7 @@ inter_least f t refs j planned found inter =
     among_least t refs j (made_under f t refs j) (named refs j.planned.ref1) refl (first_found refs j.planned planned found inter)
     (motion_is t refs j.planned j.source (f t refs j) (is_intra j.planned.code) inter)
 
--- one after another
+-- the tables of inter pictures that are coded one after another cost least
 all_least : (f : IndexRule) (t : Settings) (pictures refs : List Picture) (qs : List Planned) → AllByRecursion IsPlanned qs → ReferencesAreFound refs qs (map shown_of (coded_under f t refs (map (job_of pictures) qs)))
     → AreLeastInters f t refs (map (job_of pictures) qs)
 unfolding coded_under

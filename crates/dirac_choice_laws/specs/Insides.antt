@@ -25,7 +25,7 @@ blocks_of_pictures s = record {
   down_ratio = ratio_down (sequence_of s).chroma;
 }
 
--- all vectors of the table that is chosen for an inter picture keep inside
+-- where streams are to be shown alike, all vectors of the table that is chosen for an inter picture keep inside
 abbrev pub ChosenTablesKeepInside : Type 0
 ChosenTablesKeepInside =
     (s : Settings) (refs : List Picture) (q : Planned) (p : Picture)
@@ -37,13 +37,14 @@ abbrev pub HasVectorsInside : Settings → Made → Type 0
 HasVectorsInside t m =
     IfSome m.coded.motion (λ motion. VectorsKeepInside (blocks_of_pictures t) t.precision motion.blocks)
 
--- so do those of each picture that planned sources become under a rule, with what is listed by then
+-- all vectors of each picture that planned sources become under a rule, with what is listed by then, keep inside
 abbrev pub HaveVectorsInside : IndexRule → Settings → List Picture → List Job → Type 0
 HaveVectorsInside f t refs [] = ⊤
 HaveVectorsInside f t refs (j ∷ jobs) =
     HasVectorsInside t (made_under f t refs j) × HaveVectorsInside f t (refs_after refs (made_under f t refs j)) jobs
 
--- so do those of all pictures that raw pictures become, where the settings ask for it
+-- where the settings ask for streams that are shown alike, all vectors of all pictures that raw pictures become keep
+-- inside, under every rule
 abbrev pub CodedVectorsKeepInside : Type 0
 CodedVectorsKeepInside =
     (f : IndexRule) (t : Settings) (bytes : List ℕ) → IsAccepted t → t.alike ≡ 1

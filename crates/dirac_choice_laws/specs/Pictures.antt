@@ -35,14 +35,16 @@ pub record IsLeastInter (t : Settings) (refs : List Picture) (j : Job) (m : Made
   pub is_coded : m.coded.motion ≡ Some (motion_with t table)
   pub least : CostsLeast t j.source first (named refs j.planned.ref2) table
 
--- so has each planned inter picture under a rule for the indices, with what is listed by then
+-- under a rule for the indices, with what is listed by then, each planned inter picture has a first reference that is
+-- listed and a block table that costs least
 abbrev pub AreLeastInters : IndexRule → Settings → List Picture → List Job → Type 0
 AreLeastInters f t refs [] = ⊤
 AreLeastInters f t refs (j ∷ jobs) =
     (is_intra j.planned.code ≡ false → IsLeastInter t refs j (made_under f t refs j))
     × AreLeastInters f t (refs_after refs (made_under f t refs j)) jobs
 
--- so have all pictures that raw pictures become
+-- under every rule for the indices each inter picture that raw pictures become has a first reference that is listed and
+-- a block table that costs least
 abbrev pub InterPicturesCostLeast : Type 0
 InterPicturesCostLeast =
     (f : IndexRule) (t : Settings) (bytes : List ℕ) → IsAccepted t

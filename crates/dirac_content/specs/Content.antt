@@ -84,7 +84,7 @@ inter_samples s refs head m coded component =
     clipped (with_prediction (residual_among s Inter component coded)
     (predicted_among s m (named refs head.ref1) (named refs head.ref2) component))
 
--- just an inter picture is predicted
+-- the samples of a plane of an intra or inter picture: just an inter picture is predicted
 abbrev pub samples_from : Sequence → List Picture → PictureHeader → Option CodedMotion → Option CodedResidual
     → Component → Table
 samples_from s refs head None coded component = intra_samples s coded component

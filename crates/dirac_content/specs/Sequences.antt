@@ -23,7 +23,7 @@ use Rattle.dirac_content.specs.Shown.{accepted, outcome}
 abbrev pub waiting_as : StreamState → Picture → Waiting
 waiting_as state p = record { key = key_of (first_or state.first p.number) p.number; picture = p }
 
--- the picture that was read, rebuilt
+-- the picture that was read of a unit, rebuilt, with its key; where it is refused, none
 abbrev pub pushed_of : StreamState → Opened → Result CodedPicture Refusal → List Waiting
 pushed_of state o (Ok coded) = waiting_as state (rebuilt o.sequence state.list coded) ∷ []
 pushed_of state o (Err refusal) = []

@@ -15,20 +15,20 @@ pub record Outcome : Type 0 where
   pub most : ℕ
   pub end : Option Fault
 
--- these pictures come first
+-- what is shown with these pictures in front
 abbrev pub with_front : List Picture → Outcome → Outcome
 with_front front o = record { shown = front ++ o.shown; most = o.most; end = o.end }
 
--- the stream ends there: all that wait leave
+-- what is shown where a stream ends, lawfully or with a fault: all pictures that wait leave
 abbrev pub ends_with : StreamState → Option Fault → Outcome
 ends_with state end = record { shown = flushed state.waiting; most = state.most; end = end }
 
--- the content of a unit, and then the rest of the stream; at a refusal the stream ends with its fault
+-- what the content of a unit shows, and then the rest of the stream; at a refusal the stream ends with its fault
 abbrev pub follows : StreamState → UnitPlace → (StreamState → Outcome) → Result StreamStep Refusal → Outcome
 follows state unit_place next (Ok m) = with_front m.gone (next m.state)
 follows state unit_place next (Err refusal) = ends_with state (Some (fault_at unit_place refusal.at refusal.cause))
 
--- what these units show from there on, where the cutting ends with this end or fault
+-- what these units show from a state of a stream on, where the cutting ends with this end or fault
 unfoldable pub outcome : StreamState → UnitPlace → List UnitText → Option Fault → Outcome
 outcome state unit_place [] end = ends_with state end
 outcome state unit_place (unit ∷ units) end =
@@ -46,7 +46,7 @@ accepted state [] = []
 accepted state (unit ∷ units) =
     accepted_on unit (λ next. accepted next units) (unit_step state unit.info.code unit.payload)
 
--- what these bytes show from there on
+-- what these bytes show from a state and a place of a stream on
 pub record Shows (state : StreamState) (unit_place : UnitPlace) (bytes : List ℕ) (o : Outcome) : Type 0 where
   pub units : List UnitText
   pub end : Option Fault

@@ -17,8 +17,8 @@ use Rattle.dirac_picture.specs.Grammar.{picture_read}
 use Rattle.dirac_content.specs.declared.opened.Opened.{Opened}
 use Rattle.dirac_content.specs.Content.{rebuilt}
 
--- the open sequence, the number of its first picture, its list of references, its waiting pictures,
--- and the greatest length that a list had
+-- the state of a stream: the open sequence, the number of its first picture, its list of references, its waiting
+-- pictures, and the greatest length that a list had
 pub record StreamState : Type 0 where
   pub opened : Option Opened
   pub first : Option ℕ
@@ -26,7 +26,7 @@ pub record StreamState : Type 0 where
   pub waiting : List Waiting
   pub most : ℕ
 
--- before the first unit
+-- the state of a stream before its first unit
 abbrev pub stream_begun : StreamState
 stream_begun = record { opened = None; first = None; list = []; waiting = []; most = 0 }
 
@@ -35,7 +35,7 @@ pub record StreamStep : Type 0 where
   pub state : StreamState
   pub gone : List Picture
 
--- nothing left
+-- a step to this state, at which no picture leaves
 abbrev pub staying : StreamState → StreamStep
 staying state = record { state = state; gone = [] }
 
@@ -81,12 +81,12 @@ shows state coded p =
       gone = after.gone;
     }
 
--- a picture was read, or refused
+-- what a picture's unit brings: its picture, which was read and is shown, or its refusal
 abbrev pub shown_or_refused : StreamState → Opened → Result CodedPicture Refusal → Result StreamStep Refusal
 shown_or_refused state o (Ok coded) = Ok (shows state coded (rebuilt o.sequence state.list coded))
 shown_or_refused state o (Err refusal) = Err (in_unit refusal)
 
--- a picture of the open sequence
+-- what a picture's unit brings to the open sequence; where none is open, its refusal
 abbrev pub picture_step : StreamState → Option Opened → ℕ → List ℕ → Result StreamStep Refusal
 picture_step state None code payload = Err (record { at = 0; cause = NoSequence })
 picture_step state (Some o) code payload = shown_or_refused state o (picture_read code o.sequence state.list payload)
@@ -99,13 +99,13 @@ ended state =
       gone = flushed state.waiting;
     }
 
--- a sequence header or a picture
+-- what the unit of a sequence header or of a picture brings
 abbrev pub content : StreamState → ℕ → List ℕ → Result StreamStep Refusal
 content state code payload =
     if code == SEQUENCE_HEADER then header_step state state.opened payload
     else picture_step state state.opened code payload
 
--- an end unit, or one that is passed over
+-- what an end unit brings, or a unit that is passed over
 abbrev pub passed : StreamState → ℕ → StreamStep
 passed state code = if code == END_OF_SEQUENCE then ended state else staying state
 

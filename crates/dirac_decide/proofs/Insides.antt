@@ -26,12 +26,12 @@ pub all_more : (is : ℕ → Bool) (k : ℕ) → all_below is (k + 1) ≡ (all_b
 all_more is k = ap (all_below is) (let next : k + 1 ≡ suc k = omega arith in next)
 
 -- one vector more behind some
-pub more_is : (cost : Vector → ℕ) (vs : List Vector) (v : Vector) → 1 ≤ length vs
+more_is : (cost : Vector → ℕ) (vs : List Vector) (v : Vector) → 1 ≤ length vs
     → first_or_none cost (vs ++ v ∷ []) ≡ (if nat_lt (cost v) (cost (first_or_none cost vs)) then v else first_or_none cost vs)
 more_is cost [] v some = absurd (omega arith)
 more_is cost (w ∷ ws) v some = first_least_more cost w ws (v ∷ [])
 
-pub longer : (vs : List Vector) (v : Vector) → 1 ≤ length (vs ++ v ∷ [])
+longer : (vs : List Vector) (v : Vector) → 1 ≤ length (vs ++ v ∷ [])
 longer [] v = omega arith
 longer (w ∷ ws) v = omega arith
 
@@ -63,12 +63,12 @@ module _ (d : Deciding) (r : View) (u : PredictionUnit) where
   best_alone vs b e costed = subst (λ (xs : List Vector). IsBestAmong d r u (xs ++ b.vector ∷ []) b) (sym e) (record { some = omega arith; vector = refl; costed = costed })
 
   -- one candidate more
-  pub inside_more : (k : ℕ) → unit_keeps d u (candidate r u k) ≡ true → inside_to d r u (k + 1) ≡ inside_to d r u k ++ candidate r u k ∷ []
+  inside_more : (k : ℕ) → unit_keeps d u (candidate r u k) ≡ true → inside_to d r u (k + 1) ≡ inside_to d r u k ++ candidate r u k ∷ []
   inside_more k keeps =
       filter_of_map_range_with_len_more (unit_keeps d u) (candidate r u) 0 k k (omega arith)
       ∙ ap (λ (b : Bool). inside_to d r u k ++ cond b (candidate r u k ∷ []) []) keeps
 
-  pub inside_same : (k : ℕ) → unit_keeps d u (candidate r u k) ≡ false → inside_to d r u (k + 1) ≡ inside_to d r u k
+  inside_same : (k : ℕ) → unit_keeps d u (candidate r u k) ≡ false → inside_to d r u (k + 1) ≡ inside_to d r u k
   inside_same k leaves =
       filter_of_map_range_with_len_more (unit_keeps d u) (candidate r u) 0 k k (omega arith)
       ∙ ap (λ (b : Bool). inside_to d r u k ++ cond b (candidate r u k ∷ []) []) leaves ∙ append-nil (inside_to d r u k)
@@ -107,12 +107,12 @@ pub are_blocks : (d : Deciding) → IsDeciding d → AreBlocks (decided_blocks d
 are_blocks d h = record { columns = h.columns.1; rows = h.rows.1; across_ratio = h.across_ratio; down_ratio = h.down_ratio }
 
 -- vectors of 16 bits can be asked
-pub short_near : (v : Vector) → IsShortVector v → IsNear v
+short_near : (v : Vector) → IsShortVector v → IsNear v
 short_near v is = record { across = small v.x is.x; down = small v.y is.y } where
   small : (z : ℤ) → IsShort z → unsigned_abs z ≤ 2 ^ 24
   small z s = omega (arith, ints, s.least, s.most)
 
-pub short_bounded : (v : Vector) → IsShortVector v → IsBounded v
+short_bounded : (v : Vector) → IsShortVector v → IsBounded v
 short_bounded v is = let near = short_near v is in record { across = omega (arith, near.across); down = omega (arith, near.down) }
 
 -- the answer of the range of a unit

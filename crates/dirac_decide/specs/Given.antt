@@ -12,7 +12,7 @@ use Rattle.dirac_decide.specs.declared.inputs.RefView.{RefView}
 abbrev pub view_of : RefView → View
 view_of r = record { up = r.up.now; field = r.field.now }
 
--- those behind a second view's, where there is one
+-- the data behind the references of a second view, where there is one
 abbrev pub views_of : Option RefView → Option View
 views_of second = option_map view_of second
 

@@ -25,7 +25,7 @@ pub record IsBestAmong (d : Deciding) (r : View) (u : PredictionUnit) (vs : List
   pub vector : b.vector ≡ first_or_none (vector_cost d r u) vs
   pub costed : IsCosted d r u b
 
--- the same, where there are some
+-- the first of least cost of some vectors with its cost; nothing where there are no vectors
 abbrev pub IsBestWhereSome : Deciding → View → PredictionUnit → List Vector → Option Best → Type 0
 IsBestWhereSome d r u vs None = vs ≡ []
 IsBestWhereSome d r u vs (Some b) = IsBestAmong d r u vs b

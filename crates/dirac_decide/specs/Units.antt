@@ -20,15 +20,15 @@ use Rattle.dirac_decide.specs.declared.prediction_unit.PredictionUnit.{Predictio
 abbrev pub block_window : BlockGrid → ℕ → ℕ → Window
 block_window g i j = record { x = i * g.xbsep; y = j * g.ybsep; columns = g.xbsep; rows = g.ybsep }
 
--- the window of a unit: those of its blocks side by side
+-- the window of a unit: the windows of all its blocks together
 abbrev pub unit_window : BlockGrid → PredictionUnit → Window
 unit_window g u = record { x = u.i * g.xbsep; y = u.j * g.ybsep; columns = u.size * g.xbsep; rows = u.size * g.ybsep }
 
--- how far the source is from these samples in block i of row j
+-- the sum of absolute differences of a source's luma and of other samples in block i of row j
 abbrev pub block_distortion : Deciding → (ℕ → ℕ → ℤ) → ℕ → ℕ → ℕ
 block_distortion d f i j = over (block_window d.grid i j) (apart (sample_at d.y) f)
 
--- how far it is from them over the blocks of a unit
+-- the sum of absolute differences of a source's luma and of other samples over the blocks of a unit
 unfoldable pub unit_distortion : Deciding → PredictionUnit → (ℕ → ℕ → ℤ) → ℕ
 unit_distortion d u f = sum_below (λ b. sum_below (λ a. block_distortion d f (u.i + a) (u.j + b)) u.size) u.size
 
@@ -41,15 +41,15 @@ samples_led_to precision up v x y =
 abbrev pub candidate : View → PredictionUnit → ℕ → Vector
 candidate r u k = field_vector r.field (u.i + k % u.size) (u.j + k / u.size)
 
--- what a vector costs
+-- what a vector costs a unit: the differences, and the bias for each bit of the vector
 abbrev pub vector_cost : Deciding → View → PredictionUnit → Vector → ℕ
 vector_cost d r u v = unit_distortion d u (samples_led_to d.precision r.up v) + d.bias * bits_of_vector v
 
--- what candidate k costs
+-- what candidate k of a unit costs the unit
 abbrev pub candidate_cost : Deciding → View → PredictionUnit → ℕ → ℕ
 candidate_cost d r u k = vector_cost d r u (candidate r u k)
 
--- the number of the first candidate of least cost
+-- the number of the first candidate of least cost of a unit
 abbrev pub best_place : Deciding → View → PredictionUnit → ℕ
 best_place d r u = first_least_to (candidate_cost d r u) (u.size * u.size - 1)
 
@@ -67,27 +67,28 @@ decided_blocks d = record {
 abbrev pub block_keeps : Deciding → PredictionUnit → Vector → ℕ → Bool
 block_keeps d u v k = keeps_inside (decided_blocks d) d.precision (u.i + k % u.size) (u.j + k / u.size) v
 
--- whether it keeps inside from all its blocks
+-- whether a vector keeps inside from all blocks of a unit
 unfoldable pub unit_keeps : Deciding → PredictionUnit → Vector → Bool
 unit_keeps d u v = all_below (block_keeps d u v) (u.size * u.size)
 
--- those of the first n candidates that keep inside from all blocks
+-- the candidates among the first n of a unit that keep inside from all its blocks
 abbrev pub inside_to : Deciding → View → PredictionUnit → ℕ → List Vector
 inside_to d r u n = filter (unit_keeps d u) (map (candidate r u) (range_with_len 0 n))
 
--- the first of least cost of some vectors; of none that of no motion
+-- the first of least cost of some vectors; where there are none, the vector of no motion
 abbrev pub first_or_none : (Vector → ℕ) → List Vector → Vector
 first_or_none cost [] = no_motion
 first_or_none cost (v ∷ vs) = first_least cost v vs
 
--- the first of least cost of the candidates that keep inside
+-- the first of least cost of the candidates of a unit that keep inside
 abbrev pub best_inside : Deciding → View → PredictionUnit → Vector
 best_inside d r u = first_or_none (vector_cost d r u) (inside_to d r u (u.size * u.size))
 
--- the first candidate of least cost, where streams are to be shown alike of those that keep inside
+-- the first candidate of least cost of a unit; where streams are to be shown alike, the first of just the candidates
+-- that keep inside
 unfoldable pub best_vector : Deciding → View → PredictionUnit → Vector
 best_vector d r u = if d.alike == 0 then candidate r u (best_place d r u) else best_inside d r u
 
--- what it costs
+-- what the best vector of a unit costs the unit
 abbrev pub least_cost : Deciding → View → PredictionUnit → ℕ
 least_cost d r u = vector_cost d r u (best_vector d r u)

@@ -39,7 +39,7 @@ pub record RefusesContent (unit : Unit) (state : StreamState) (fault : Fault) : 
   pub content : unit_step state unit.info.code unit.payload ≡ Err refusal
   pub same : fault ≡ record { unit = unit.index; at = unit.at + refusal.at; cause = refusal.cause }
 
--- the content of a unit brings this
+-- the content of a unit brings this step, or is refused with this fault; where memory was wanting the state stays
 abbrev pub HasContent : Result Step Halt → Unit → StreamState → StreamState → Type 0
 HasContent (Ok step) unit state state' =
     IsTakenAs (Ok step) (unit_step state unit.info.code unit.payload) state state'
@@ -124,7 +124,7 @@ all_leave (Err (halt.Fault fault)) = true
 all_leave (Err halt.ReadFault) = false
 all_leave (Err halt.NoMemory) = false
 
--- whether units go on, or what was met
+-- whether units go on, or the end, fault or stop that was met
 abbrev pub met_by : Result Step Halt → StreamEnd
 met_by (Ok step) = stream_end.Going
 met_by (Err halt.End) = stream_end.Ended
@@ -141,7 +141,7 @@ turn_by taken = record {
   stream_end = met_by taken;
 }
 
--- what is answered once this was met and no picture is due
+-- what is answered once this end, fault or stop was met and no picture is due
 abbrev pub answer_by : StreamEnd → Next
 answer_by stream_end.Going = next.Stopped
 answer_by stream_end.Ended = next.End

@@ -16,8 +16,8 @@ use Rattle.dirac_content.specs.StreamState.{StreamState, stream_begun}
 use Rattle.dirac_content.specs.Shown.{Outcome, Shows, accepted, with_front}
 use Rattle.dirac_content.specs.Leaving.{leaving}
 
--- the units cut so far, the state that their content brought, pictures that leave before the next unit is read,
--- how many were given, and the end, fault or stop that was met
+-- a decoder: the units cut so far, the state that their content brought, pictures that leave before the next unit is
+-- read, how many were given, and the end, fault or stop that was met
 pub record Decoding : Type 0 where
   pub units : CuttingProgress
   pub state : StreamState
@@ -25,12 +25,12 @@ pub record Decoding : Type 0 where
   pub given : ℕ
   pub stream_end : StreamEnd
 
--- before the first unit
+-- a decoder before the first unit of its stream
 abbrev pub decoder_begun : Decoding
 decoder_begun =
     record { units = cutting_begun; state = stream_begun; due = []; given = 0; stream_end = stream_end.Going }
 
--- no picture waits
+-- the state of a stream once no picture waits
 abbrev pub emptied : StreamState → StreamState
 emptied state = record state { waiting = [] }
 
@@ -56,7 +56,7 @@ Remains stream_end.Ended state units held o = o ≡ record { shown = []; most = 
 Remains (stream_end.Faulted fault) state units held o = o ≡ record { shown = []; most = state.most; end = Some fault }
 Remains stream_end.Stopped state units held o = ⊥
 
--- this is still to come
+-- what is still to come of a decoder: the due pictures, and behind them the rest of the stream, or what was met
 pub record Comes (d : Decoding) (held : Option (List ℕ)) (o : Outcome) : Type 0 where
   pub rest : Outcome
   pub same : o ≡ with_front d.due rest
@@ -70,7 +70,8 @@ RemainsIn (stream_end.Faulted fault) state unit_place bytes o =
     o ≡ record { shown = []; most = state.most; end = Some fault }
 RemainsIn stream_end.Stopped state unit_place bytes o = ⊥
 
--- this is still to come of just these bytes
+-- what is still to come of a decoder and just these bytes: the due pictures, and behind them what the bytes show, or
+-- what was met
 pub record ComesIn (d : Decoding) (bytes : List ℕ) (o : Outcome) : Type 0 where
   pub rest : Outcome
   pub same : o ≡ with_front d.due rest
@@ -103,12 +104,12 @@ pub record Passed (old new : Decoding) (bytes : List ℕ) (known : Option (List 
   pub leaves : (more : List UnitText)
       → old.due ++ leaving old.state (units ++ more) ≡ given ++ (new.due ++ leaving new.state more)
 
--- whatever is still to come came behind these pictures
+-- whatever is still to come of the new decoder was still to come of the old one, behind these pictures
 abbrev pub ComesBehind : Decoding → Decoding → Option (List ℕ) → Option (List ℕ) → List Picture → Type 0
 ComesBehind old new held held' given = (o : Outcome) → Comes new held' o → Comes old held (with_front given o)
 
--- whatever is still to come came behind these pictures, also what comes of the bytes read alone; while units are taken,
--- whole ones were read meanwhile
+-- whatever is still to come of the new decoder was still to come of the old one, behind these pictures, also what comes
+-- of the bytes read alone; while units are taken, whole ones were read meanwhile
 pub record LeadsTo (old new : Decoding) (held held' : Option (List ℕ)) (given : List Picture) : Type 0 where
   pub comes : ComesBehind old new held held' given
   pub going : new.stream_end ≡ stream_end.Going → old.stream_end ≡ stream_end.Going

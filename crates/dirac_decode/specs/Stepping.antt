@@ -82,7 +82,7 @@ given_by (Some next.ReadFault) = []
 given_by (Some next.NoMemory) = []
 given_by (Some next.Stopped) = []
 
--- the state stays, and all that wait are due
+-- all pictures that waited are due, and otherwise the state of the decoder stays
 abbrev pub DrainsAll : Decoding → Decoding → Type 0
 DrainsAll old new = (new.state ≡ emptied old.state) × (new.due ≡ flushed old.state.waiting)
 
@@ -128,7 +128,7 @@ DueGives (Some p) old new =
     (old.due ≡ p ∷ new.due) × (new ≡ record old { due = new.due; given = old.given + 1 })
 DueGives None old new = (old.due ≡ []) × (new ≡ old)
 
--- the open sequence
+-- the sequence that is open, where one is
 abbrev pub opened_sequence : Option Opened → Option Sequence
 opened_sequence None = None
 opened_sequence (Some o) = Some o.sequence

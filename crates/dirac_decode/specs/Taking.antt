@@ -25,7 +25,7 @@ made_by step.On new = record { state = new; gone = [] }
 made_by (step.Shown p) new = record { state = new; gone = p ∷ [] }
 made_by step.Drains new = record { state = emptied new; gone = flushed new.waiting }
 
--- what the unit's content brings
+-- a step of a decoder and the state behind it are what the content of a unit brings
 abbrev pub Steps : Step → StreamStep → StreamState → Type 0
 Steps step made new = made ≡ made_by step new
 
@@ -35,7 +35,7 @@ IsTakenAs (Ok step) read old new = (made : StreamStep) × (read ≡ Ok made) × 
 IsTakenAs (Err (stop.Refused refusal)) read old new = (read ≡ Err refusal) × (new ≡ old)
 IsTakenAs (Err stop.NoMemory) read old new = new ≡ old
 
--- how many pictures leave at once
+-- how many pictures a step of a decoder lets leave at once
 abbrev pub shown_in : Step → ℕ
 shown_in step.On = 0
 shown_in (step.Shown p) = 1

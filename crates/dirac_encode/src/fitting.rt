@@ -59,7 +59,7 @@ fn code_in_budget(
         ≡ (made (at_index asked.now.settings.now index) asked.now.refs.now (asked_job asked.now)).shown)) }
     ensures fits { IfOk result (λ r. IfSome r (λ _.
         length_at asked.now.settings.now asked.now.refs.now (asked_job asked.now) index ≤ budget)) }
-    ensures long { result ≡ Ok None →
+    ensures longer_where_none { result ≡ Ok None →
         budget < length_at asked.now.settings.now asked.now.refs.now (asked_job asked.now) index }
 {
     let parse_info = PARSE_INFO_LENGTH as u32;

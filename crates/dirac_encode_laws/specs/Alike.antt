@@ -9,13 +9,14 @@ use Rattle.dirac_encode_laws.specs.Coding.{IndexRule, Job, Made, made_under, ref
 pub record IsShownAlike (m : Made) : Type 0 where
   pub residual : is_intra m.coded.code ≡ false → is_some m.coded.residual ≡ true
 
--- so it is of each picture that planned sources become under a rule, with what is listed by then
+-- each inter picture that planned sources become under a rule, with what is listed by then, has a residual
 abbrev pub AreShownAlike : IndexRule → Settings → List Picture → List Job → Type 0
 AreShownAlike f t refs [] = ⊤
 AreShownAlike f t refs (j ∷ jobs) =
     IsShownAlike (made_under f t refs j) × AreShownAlike f t (refs_after refs (made_under f t refs j)) jobs
 
--- where the settings ask for it, it is so under every rule
+-- where the settings ask for streams that are shown alike, each inter picture that planned sources become has a
+-- residual, under every rule
 abbrev pub PicturesAreShownAlike : Type 0
 PicturesAreShownAlike =
     (f : IndexRule) (t : Settings) (refs : List Picture) (jobs : List Job) → t.alike ≡ 1 → AreShownAlike f t refs jobs

@@ -17,12 +17,12 @@ pub record IsCodable (t : Settings) : Type 0 where
   pub codeblocks : 1 ≤ t.codeblocks
   pub finer : t.finer ≤ LARGEST_INDEX
 
--- coefficients stay below 2 ^ 38
+-- the coefficients of coded bands stay below 2 ^ 38 in magnitude
 abbrev pub HaveSmall : List CodedBand → Type 0
 HaveSmall bands =
     (n : ℕ) (b : CodedBand) → slice_get bands n ≡ Some b → All (λ v. unsigned_abs v < 2 ^ 38) b.table.values
 
--- those of all three planes
+-- the coefficients of all three planes of a residual stay below 2 ^ 38 in magnitude
 pub record ResidualIsSmall (r : CodedResidual) : Type 0 where
   pub y : HaveSmall r.y
   pub u : HaveSmall r.u

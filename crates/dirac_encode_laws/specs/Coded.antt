@@ -34,7 +34,7 @@ use Rattle.dirac_motion.specs.Chosen.{chosen}
 abbrev pub count_of : ℕ → ℕ → ℕ → ℕ → ℕ
 count_of codeblocks size depth level = if level == 0 then 1 else min codeblocks (band_length size depth level)
 
--- those of the first levels
+-- the numbers of codeblocks across and down of each of the first levels
 unfoldable pub counts_below : Settings → ℕ → List (ℕ × ℕ)
 counts_below t zero = []
 counts_below t (suc level) =
@@ -85,7 +85,7 @@ residual_plane t refs head (Some m) p component =
     plane_less_prediction (plane_of p component)
     (predicted_among (sequence_of t) m (named refs head.ref1) (named refs head.ref2) component)
 
--- its quantised bands
+-- the quantised bands of a plane of a residual, by these settings
 abbrev pub quantised_bands_of : Settings → Kind → Table → List CodedBand
 quantised_bands_of t kind plane = plane_bands kind (transform_of t) t.finer t.index plane
 
@@ -98,7 +98,7 @@ residual_of t refs head m p = record {
   v = quantised_bands_of t (kind_of m) (residual_plane t refs head m p component.V);
 }
 
--- whether all bands of all planes have zeros alone
+-- whether all bands of all planes of a residual have zeros alone
 abbrev pub is_zero_residual : CodedResidual → Bool
 is_zero_residual r = are_zero_bands r.y && are_zero_bands r.u && are_zero_bands r.v
 
@@ -107,7 +107,7 @@ is_zero_residual r = are_zero_bands r.y && are_zero_bands r.u && are_zero_bands 
 abbrev pub is_left_out : Settings → CodedResidual → Bool
 is_left_out t r = t.alike == 0 && is_zero_residual r
 
--- the residual that is written
+-- the residual that is written: that of an intra picture always, that of an inter picture unless it is left out
 abbrev pub residual_unless_left_out : Settings → Option CodedMotion → CodedResidual → Option CodedResidual
 residual_unless_left_out t None r = Some r
 residual_unless_left_out t (Some m) r = if is_left_out t r then None else Some r

@@ -21,7 +21,8 @@ pub record Job : Type 0 where
   pub planned : Planned
   pub source : Picture
 
--- what it becomes: the coded picture, its payload, and its reconstruction, the picture that decoders show for it
+-- what a planned source becomes: the coded picture, its payload, and its reconstruction, the picture that decoders show
+-- for it
 pub record Made : Type 0 where
   pub coded : CodedPicture
   pub payload : List ℕ
@@ -39,7 +40,7 @@ made_from t refs coded = record {
 abbrev pub made : Settings → List Picture → Job → Made
 made t refs j = made_from t refs (coded_of t refs j.planned j.source)
 
--- the list of references behind it
+-- the list of references once a picture is coded
 abbrev pub refs_after : List Picture → Made → List Picture
 refs_after refs m = committed refs m.coded.header.retire (as_reference m.coded.code m.shown)
 
@@ -48,7 +49,7 @@ refs_after refs m = committed refs m.coded.header.retire (as_reference m.coded.c
 abbrev pub IndexRule : Type 0
 IndexRule = Settings → List Picture → Job → ℕ
 
--- every picture has the settings' index
+-- the rule that gives every picture the settings' index
 abbrev pub own_index : IndexRule
 own_index t refs j = t.index
 
@@ -75,7 +76,7 @@ blank = record {
 abbrev pub job_of : List Picture → Planned → Job
 job_of pictures q = record { planned = q; source = slice_index_or pictures q.number blank }
 
--- the sources in the order of the plan
+-- planned pictures with their sources, in the order of the plan
 abbrev pub jobs_of : Settings → List Picture → List Job
 jobs_of t pictures = map (job_of pictures) (plan (length pictures) t)
 
@@ -89,11 +90,11 @@ AreAtIndexZero f t refs [] = ⊤
 AreAtIndexZero f t refs (j ∷ jobs) =
     (f t refs j ≡ 0) × AreAtIndexZero f t (refs_after refs (made_under f t refs j)) jobs
 
--- with the settings' index
+-- what these pictures become with the settings' index, in coding order; no picture is listed before the first
 abbrev pub coding : Settings → List Picture → List Made
 coding t pictures = coding_under own_index t pictures
 
--- the reconstruction
+-- the reconstruction of a coded picture
 abbrev pub shown_of : Made → Picture
 shown_of m = m.shown
 
@@ -101,11 +102,11 @@ shown_of m = m.shown
 abbrev pub reconstructions_under : IndexRule → Settings → List Picture → List Picture
 reconstructions_under f t pictures = by_number (length pictures) (map shown_of (coding_under f t pictures))
 
--- with the settings' index
+-- the reconstructions of these pictures with the settings' index, by number
 abbrev pub reconstructions : Settings → List Picture → List Picture
 reconstructions t pictures = reconstructions_under own_index t pictures
 
--- a reconstruction with its key
+-- the reconstruction of a coded picture with its key
 abbrev pub waiting_of : Made → Waiting
 waiting_of m = as_waiting m.shown
 

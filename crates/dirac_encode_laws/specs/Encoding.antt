@@ -28,7 +28,7 @@ abbrev pub first_long : Settings → List Made → Option Made
 first_long t [] = None
 first_long t (m ∷ ms) = if is_short t m then first_long t ms else Some m
 
--- the pictures before it
+-- the pictures in coding order before the first whose unit is too long
 abbrev pub before_long : Settings → List Made → List Made
 before_long t [] = []
 before_long t (m ∷ ms) = if is_short t m then m ∷ before_long t ms else []
@@ -72,7 +72,7 @@ encoding_under f t bytes =
     encoding_by t (ending t bytes) (coding_under f t (sources t bytes))
     (first_long t (coding_under f t (sources t bytes)))
 
--- with the settings' index
+-- the encoding of raw pictures with these settings and the settings' index
 abbrev pub encoding : Settings → List ℕ → Encoding
 encoding t bytes = encoding_under own_index t bytes
 
@@ -81,7 +81,7 @@ abbrev pub WritesAll : Encoding →
     Option (List ℕ) → Option (List ℕ) → Option (List ℕ) → Option (List ℕ) → Type 0
 WritesAll e out out' side side' = Appends out out' e.stream × Appends side side' (raws e.shown)
 
--- or a front of each
+-- what both sinks took: a front of the stream, and a front of the raw pictures delivered beside it
 abbrev pub WritesFront : Encoding →
     Option (List ℕ) → Option (List ℕ) → Option (List ℕ) → Option (List ℕ) → Type 0
 WritesFront e out out' side side' = AppendsFront out out' e.stream × AppendsFront side side' (raws e.shown)

@@ -31,7 +31,8 @@ length_at t refs j index = picture_length (made (at_index t index) refs j)
 abbrev pub fit : ℕ → IndexRule
 fit budget t refs j = least_fitting (length_at t refs j) budget t.index
 
--- the rule where there is a budget, and where there is none
+-- the rule for the quantiser indices: where there is a budget the least by which the unit fits it, or the last; else
+-- the settings' index
 abbrev pub rule_of : Option ℕ → IndexRule
 rule_of None = own_index
 rule_of (Some budget) = fit budget
@@ -51,13 +52,15 @@ FitsOrNone budget t refs j =
     ⊎ ((fit budget t refs j ≡ LARGEST_INDEX)
     × ((index : ℕ) → t.index ≤ index → index ≤ LARGEST_INDEX → budget < length_at t refs j index))
 
--- so it is with each, with what is listed by then
+-- each planned source's unit, with what is listed by then, fits the budget, or does so at no index from the settings'
+-- on and has the last
 abbrev pub AllFitOrNone : ℕ → Settings → List Picture → List Job → Type 0
 AllFitOrNone budget t refs [] = Unit {0}
 AllFitOrNone budget t refs (j ∷ jobs) =
     FitsOrNone budget t refs j × AllFitOrNone budget t (refs_after refs (made_under (fit budget) t refs j)) jobs
 
--- under a budget each unit fits it, or none of its indices does
+-- with accepted settings each planned source's unit fits a budget, whatever it is, or does so at no index from the
+-- settings' on and has the last
 abbrev pub BudgetsAreKept : Type 0
 BudgetsAreKept =
     (budget : ℕ) (t : Settings) (refs : List Picture) (jobs : List Job) → IsAccepted t

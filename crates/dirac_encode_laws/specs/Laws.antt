@@ -28,12 +28,12 @@ pub record IsMade (t : Settings) (refs : List Picture) (m : Made) : Type 0 where
   pub read : picture_read m.coded.code (sequence_of t) refs m.payload ≡ Ok m.coded
   pub shows : m.shown ≡ rebuilt (sequence_of t) refs m.coded
 
--- each, with what is listed by then
+-- coded pictures, each of which is read as it was coded and rebuilt as it is shown, with what is listed by then
 abbrev pub AreMade : Settings → List Picture → List Made → Type 0
 AreMade t refs [] = Unit {0}
 AreMade t refs (m ∷ ms) = IsMade t refs m × AreMade t (refs_after refs m) ms
 
--- the first picture is an intra picture of number 0
+-- the first of these coded pictures is an intra picture of number 0
 abbrev pub Begins : List Made → Type 0
 Begins [] = Unit {0}
 Begins (m ∷ ms) = (is_intra m.coded.code ≡ true) × (m.coded.header.number ≡ 0)
@@ -54,7 +54,7 @@ JobsAreRead =
     → picture_read j.planned.code (sequence_of t) refs (payload_of t (coded_of t refs j.planned j.source))
     ≡ Ok (coded_of t refs j.planned j.source)
 
--- its coded coefficients stay below 2^38
+-- the coded coefficients of a planned source whose references are found stay below 2^38
 abbrev pub JobsAreSmall : Type 0
 JobsAreSmall =
     (t : Settings) (refs : List Picture) (j : Job)
@@ -62,7 +62,7 @@ JobsAreSmall =
     → are_listed refs (header_of j.planned) ≡ true
     → ResidualIsSmall (residual_of t refs (header_of j.planned) (motion_of t refs j.planned j.source) j.source)
 
--- each plane has as many samples as its sizes tell
+-- each plane of a picture has as many samples as its sizes tell
 pub record IsWholePicture (p : Picture) : Type 0 where
   pub y : length p.y.values ≡ p.y.width * p.y.height
   pub u : length p.u.values ≡ p.u.width * p.u.height
@@ -75,7 +75,7 @@ JobsAreKept =
     → IsPlanned j.planned → are_listed refs (header_of j.planned) ≡ true → j.source.number ≡ j.planned.number
     → t.index ≡ 0 → (made t refs j).shown ≡ j.source
 
--- numbered one after another, from this number on
+-- these pictures are numbered one after another, from this number on
 abbrev pub AreNumbered : ℕ → List Picture → Type 0
 AreNumbered n [] = Unit {0}
 AreNumbered n (p ∷ pictures) = (p.number ≡ n) × AreNumbered (n + 1) pictures
@@ -87,13 +87,13 @@ pub record AreSources (t : Settings) (pictures : List Picture) : Type 0 where
   pub each : AllByRecursion (IsSource t) pictures
   pub short : AllByRecursion (λ m. picture_length m < 2 ^ 32) (coding t pictures)
 
--- their stream has no fault, and shows their reconstructions in order
+-- with the settings' index the stream of sources has no fault, and shows their reconstructions by number
 abbrev pub SourcesShowReconstructions : Type 0
 SourcesShowReconstructions =
     (t : Settings) (pictures : List Picture) → AreSources t pictures
     → (o : Outcome) × IsShown (stream_of t pictures) o × (o.shown ≡ reconstructions t pictures) × (o.end ≡ None)
 
--- at index 0 these are the sources
+-- at index 0 the reconstructions of sources that are numbered from 0 on are the sources themselves
 abbrev pub SourcesAreKept : Type 0
 SourcesAreKept =
     (t : Settings) (pictures : List Picture) → AreSources t pictures
@@ -127,21 +127,23 @@ pub record AreSourcesUnder (f : IndexRule) (t : Settings) (pictures : List Pictu
   pub each : AllByRecursion (IsSource t) pictures
   pub short : AllByRecursion (λ m. picture_length m < 2 ^ 32) (coding_under f t pictures)
 
--- their stream has no fault, and shows their reconstructions in order
+-- under a rule for the indices the stream of sources has no fault, and shows their reconstructions by number
 abbrev pub SourcesShowReconstructionsUnder : Type 0
 SourcesShowReconstructionsUnder =
     (f : IndexRule) → GivesIndices f → (t : Settings) (pictures : List Picture) → AreSourcesUnder f t pictures
     → (o : Outcome) × IsShown (stream_under f t pictures) o
     × (o.shown ≡ reconstructions_under f t pictures) × (o.end ≡ None)
 
--- where each source's index is 0 these are the sources
+-- where a rule gives each source index 0, the reconstructions of sources that are numbered from 0 on are the sources
+-- themselves
 abbrev pub SourcesAreKeptUnder : Type 0
 SourcesAreKeptUnder =
     (f : IndexRule) → GivesIndices f → (t : Settings) (pictures : List Picture) → AreSourcesUnder f t pictures
     → AreNumbered 0 pictures → AllByRecursion IsWholePicture pictures
     → AreAtIndexZero f t [] (jobs_of t pictures) → reconstructions_under f t pictures ≡ pictures
 
--- raw pictures are recovered from their stream where no unit is longer than the settings allow
+-- under a rule for the indices raw pictures are recovered from their stream where no unit is longer than the settings
+-- allow
 abbrev pub RawPicturesAreRecoveredUnder : Type 0
 RawPicturesAreRecoveredUnder =
     (f : IndexRule) → GivesIndices f → (t : Settings) (bytes : List ℕ)

@@ -16,7 +16,7 @@ motion_with t b = motion_by t.blocks t.precision b
 abbrev pub with_blocks : Settings → BlockTable → List Bool → List Bool
 with_blocks t table bits = with_table t.blocks t.precision table bits
 
--- with a picture's motion behind them, if it has any
+-- bits with a picture's motion behind them, if the picture has any
 abbrev pub with_motion : Settings → Option CodedMotion → List Bool → List Bool
 with_motion t m bits = with_motion_by t.blocks t.precision m bits
 
@@ -24,7 +24,7 @@ with_motion t m bits = with_motion_by t.blocks t.precision m bits
 abbrev pub HasSpelledBlocks : Settings → Option CodedMotion → List Bool → Type 0
 HasSpelledBlocks t m bits = HasSpelledTable t.blocks t.precision m bits
 
--- with a coded picture behind them
+-- bits with a coded picture behind them
 abbrev pub with_coded_picture : Settings → CodedPicture → List Bool → List Bool
 with_coded_picture t c bits = with_coded (sequence_of t) t.blocks t.precision c bits
 

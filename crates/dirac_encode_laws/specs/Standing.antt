@@ -14,22 +14,23 @@ use Rattle.dirac_encode_laws.specs.Steps.{Progress}
 use Rattle.dirac_encode_laws.specs.Stream.{last_length, units_of}
 use Rattle.dirac_plan_laws.specs.Order.{by_number}
 
--- each unit is short enough
+-- the unit of each of these coded pictures is no longer than the settings allow
 abbrev pub AreShort : Settings → List Made → Type 0
 AreShort t ms = AllByRecursion (λ m. is_short t m ≡ true) ms
 
--- those that leave while these are coded, and those that wait then
+-- the pictures that leave while the reconstructions of coded pictures are pushed, and the pictures that wait then
 abbrev pub pushed_now : List Made → Leaving
 pushed_now ps = pushed_all [] (keyed_reconstructions ps)
 
--- pictures leave by rising number, as the third law has it for all of a plan
+-- the reconstructions of these coded pictures leave by rising number
 abbrev pub Leave : List Made → Type 0
 Leave ms = in_delivery_order (keyed_reconstructions ms) ≡ by_number (length ms) (map shown_of ms)
 
--- the jobs of these bytes, and all that becomes of them under a rule for their indices
+-- the planned pictures of these bytes with their sources, in the order of the plan
 abbrev pub jobs_in : Settings → List ℕ → List Job
 jobs_in t bytes = jobs_of t (sources t bytes)
 
+-- what the sources of these bytes become under a rule for their indices, in coding order
 abbrev pub coding_in : IndexRule → Settings → List ℕ → List Made
 coding_in f t bytes = coding_under f t (sources t bytes)
 
@@ -46,6 +47,6 @@ pub record CodingStands (f : IndexRule) (t : Settings) (bytes : List ℕ) (p : P
   pub delivered : Appends side0 side (raws (pushed_now done).gone)
   pub short : AreShort t done
 
--- those that wait to be coded are sources of their numbers
+-- each picture that waits to be coded is the source of its number
 abbrev pub AreAmong : List Picture → List Picture → Type 0
 AreAmong all waiting = AllByRecursion (λ (p : Picture). slice_get all p.number ≡ Some p) waiting

@@ -66,12 +66,12 @@ pub record IsEnded (t : Settings) (old : Progress) (out out' side side' : Option
   pub written : Appends out out' (last_units t old.count old.previous)
   pub delivered : Appends side side' (raws (flushed old.delivery))
 
--- or a front of each
+-- the end of a stream broke off: a front of the last units is written, and a front of all that waited is delivered
 pub record EndsEarly (t : Settings) (old : Progress) (out out' side side' : Option (List ℕ)) : Type 0 where
   pub written : AppendsFront out out' (last_units t old.count old.previous)
   pub delivered : AppendsFront side side' (raws (flushed old.delivery))
 
--- before the first picture
+-- what is coded of a stream before its first picture: nothing
 abbrev pub no_progress : Progress
 no_progress = record { count = 0; previous = 0; refs = []; delivery = [] }
 
@@ -91,7 +91,7 @@ IsFault encoded.SideFault = ⊤
 IsFault encoded.NoMemory = ⊤
 IsFault answer = ⊥
 
--- such a fault, or a unit that is too long
+-- a fault of a sink, want of memory, or a unit that is too long
 abbrev pub StopsCoding : Encoded → Type 0
 StopsCoding (encoded.UnitTooLong number) = ⊤
 StopsCoding answer = IsFault answer

@@ -17,7 +17,7 @@ use Rattle.dirac_encode_laws.specs.Coding.{IndexRule, Made, coding_under, own_in
 abbrev pub header_length : Settings → ℕ
 header_length t = 13 + length (sequence_payload t)
 
--- of a picture's unit
+-- the length of a picture's unit
 abbrev pub picture_length : Made → ℕ
 picture_length m = 13 + length m.payload
 
@@ -25,7 +25,8 @@ picture_length m = 13 + length m.payload
 abbrev pub header_unit : Settings → ℕ → List ℕ
 header_unit t previous = unit SEQUENCE_HEADER previous (sequence_payload t)
 
--- it stands before an intra picture
+-- the sequence header's unit that stands before an intra picture, behind a unit of this length; before an inter picture
+-- none
 abbrev pub header_before : Settings → Made → ℕ → List ℕ
 header_before t m previous = if is_intra m.coded.code then header_unit t previous else []
 
@@ -43,7 +44,7 @@ units_of t previous [] = []
 units_of t previous (m ∷ ms) =
     (header_before t m previous ++ picture_unit t m previous) ++ units_of t (picture_length m) ms
 
--- the length of the last of them
+-- the length of the last of these pictures' units; where there are no pictures, of the unit before them
 abbrev pub last_length : ℕ → List Made → ℕ
 last_length previous [] = previous
 last_length previous (m ∷ ms) = last_length (picture_length m) ms
@@ -61,21 +62,23 @@ stream_from t ms = units_of t 0 ms ++ closing t ms
 abbrev pub stream_under : IndexRule → Settings → List Picture → List ℕ
 stream_under f t pictures = stream_from t (coding_under f t pictures)
 
--- with the settings' index
+-- the stream of these sources with the settings' index
 abbrev pub stream_of : Settings → List Picture → List ℕ
 stream_of t pictures = stream_under own_index t pictures
 
--- those units, each with its parse info and its payload
+-- a sequence header's unit behind a unit of this length, as its parse info and its payload
 unfoldable pub header_text : Settings → ℕ → UnitText
 header_text t previous =
     record { info = info_for SEQUENCE_HEADER previous (sequence_payload t); payload = sequence_payload t }
 
+-- a picture's unit, as its parse info and its payload
 unfoldable pub picture_text : Settings → Made → ℕ → UnitText
 picture_text t m previous = record {
   info = info_for m.coded.code (length_before t m previous) m.payload;
   payload = m.payload;
 }
 
+-- the end unit behind a unit of this length, as its parse info and a payload without bytes
 unfoldable pub end_text : ℕ → UnitText
 end_text previous = record { info = end_info previous; payload = [] }
 
@@ -98,7 +101,7 @@ units_in t (m ∷ ms) = units_from t 0 (m ∷ ms)
 abbrev pub units_under : IndexRule → Settings → List Picture → List UnitText
 units_under f t pictures = units_in t (coding_under f t pictures)
 
--- with the settings' index
+-- the units of the stream of these sources with the settings' index
 abbrev pub stream_units : Settings → List Picture → List UnitText
 stream_units t pictures = units_under own_index t pictures
 

@@ -29,7 +29,8 @@ pub record IsAsked (t : Settings) (refs : List Picture) (q : Planned) (p : Pictu
   pub planned : IsPlanned q
   pub found : are_listed refs (header_of q) ≡ true
 
--- what is asked is that
+-- what is asked for can be coded: its settings are accepted, its source and listed pictures have their size, and the
+-- references of its planned picture are found
 abbrev pub CanBeCoded : Asked → Type 0
 CanBeCoded a = IsAsked a.settings.now a.refs.now a.planned.now a.source.now
 
@@ -37,7 +38,7 @@ CanBeCoded a = IsAsked a.settings.now a.refs.now a.planned.now a.source.now
 abbrev pub blocks_of : Option Moving → Option BlockTable
 blocks_of moving = option_map (λ (m : Moving). m.blocks.now) moving
 
--- an inter picture's references are those of its plan
+-- the references of an inter picture are those of its plan, and pictures of the sequence with their lumas' half samples
 pub record IsMoving (t : Settings) (refs : List Picture) (q : Planned) (m : Moving) : Type 0 where
   pub named : AreNamed refs q m.references.now
   pub lent : AreLent (sequence_of t) m.references.now

@@ -13,14 +13,14 @@ pub record CanBePredicted (f : Predicting) : Type 0 where
   pub lent : AreLent f.moved.sequence.now f.references.now
   pub two : f.moved.motion.now.blocks.refs ≡ 2 → IsSome (second_of f.references.now)
 
--- these values are predicted for a plane
+-- these values are predicted for a plane of an inter picture
 abbrev pub IsPredicted : Predicting → Component → List ℤ → Type 0
 IsPredicted f component values =
     IsPredictionOfPlane f.moved.sequence.now (Some (first_of f.references.now)) (second_of f.references.now)
     f.moved.motion.now
     component values
 
--- these are predicted for the planes
+-- these values are predicted for the planes of an inter picture
 abbrev pub PlanesArePredicted : Predicting → Predictions → Type 0
 PlanesArePredicted f ps =
     ArePredictions f.moved.sequence.now (Some (first_of f.references.now)) (second_of f.references.now)

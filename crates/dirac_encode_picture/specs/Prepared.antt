@@ -47,11 +47,11 @@ pub record IsPrepared (t : Settings) (refs : List Picture) (q : Planned) (p : Pi
   pub compensated : IfSome x.compensated (IsCompensated t refs q)
   pub left : IsLeft t refs q p (motion_among t (blocks_in x)) x.left
 
--- what is asked is prepared
+-- what is asked for is prepared to be coded, whatever the quantiser index
 abbrev pub IsPreparedFor : Asked → Prepared → Type 0
 IsPreparedFor a x = IsPrepared a.settings.now a.refs.now a.planned.now a.source.now x
 
--- its coded picture, predicted by this block table if there is one
+-- the coded picture of what is asked for, predicted by this block table if there is one
 abbrev pub coded_for : Asked → Option BlockTable → CodedPicture
 coded_for a o = coded_by a.settings.now a.refs.now a.planned.now a.source.now o
 

@@ -15,7 +15,6 @@ mod workers;
 
 pub use asked::Asked;
 pub use choosing::{code_picture, prepare_picture};
-pub use dirac_encode_laws::Coded;
 pub use dirac_motion::choose_blocks;
 pub use picture::{code_prepared, code_with_blocks};
 pub use prepared::{Prepared, prepare};

@@ -63,7 +63,7 @@ fn coded_within(
     ensures shown { IfOk result (λ r. IfSome r (λ c. c.shown ≡ rebuilt (sequence_for asked.now.settings.now)
         asked.now.refs.now (coded_for asked.now (blocks_in prepared.now)))) }
     ensures fits { IfOk result (λ r. IfSome r (λ c. length c.payload.items ≤ most)) }
-    ensures long { result ≡ Ok None → most < length (payload_of asked.now.settings.now
+    ensures longer_where_none { result ≡ Ok None → most < length (payload_of asked.now.settings.now
         (coded_for asked.now (blocks_in prepared.now))) }
 {
     let spelled = spelled_at(alloc, prepared, asked)?;
@@ -102,7 +102,7 @@ pub fn code_within(
         ≡ rebuilt (sequence_for (at_index asked.now.settings.now index)) asked.now.refs.now
         (coded_at_index asked.now index prepared.now))) }
     ensures fits { IfOk result (λ r. IfSome r (λ c. length c.payload.items ≤ most)) }
-    ensures long { result ≡ Ok None → most < length (payload_of (at_index asked.now.settings.now index)
+    ensures longer_where_none { result ≡ Ok None → most < length (payload_of (at_index asked.now.settings.now index)
         (coded_at_index asked.now index prepared.now)) }
 {
     let settings = Settings {

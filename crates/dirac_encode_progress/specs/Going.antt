@@ -19,15 +19,16 @@ use Rattle.dirac_encode_laws.specs.Standing.{AreAmong, Leave, CodingStands}
 use Rattle.dirac_encode_laws.specs.Steps as steps
 use Rattle.dirac_encode_progress.specs.declared.progress.Progress.{Progress}
 
--- what the code holds of its progress
+-- what the code holds of the progress of coding
 abbrev pub so_far : Progress → steps.Progress
 so_far c = record { count = c.count; previous = c.previous; refs = c.refs; delivery = c.delivery }
 
--- those that wait for delivery, where a picture of this number joins them
+-- the pictures that wait for delivery, where one of this number joins them
 abbrev pub waiting_joined : List Waiting → ℕ → Picture → List Waiting
 waiting_joined waiting number shown = waiting ++ record { key = key_of 0 number; picture = shown } ∷ []
 
--- of these bytes so much is coded; those that wait are sources of theirs; once the pictures have ended all are accepted
+-- of these bytes so much is coded; the pictures that wait to be coded are sources of these bytes; once the raw pictures
+-- have ended all are accepted
 pub record CodingGoesOn (f : IndexRule) (t : Settings) (bytes : List ℕ) (ended : Bool) (p : Planning)
     (c : steps.Progress) (out0 out side0 side : Option (List ℕ)) : Type 0 where
   pub stands : CodingStands f t bytes c out0 out side0 side
@@ -43,7 +44,7 @@ LeadsOn f t ended p p' c c' out out' side side' =
     (bytes : List ℕ) (out0 side0 : Option (List ℕ))
     → CodingGoesOn f t bytes ended p c out0 out side0 side → CodingGoesOn f t bytes ended p' c' out0 out' side0 side'
 
--- or it stops with the answer of their encoding
+-- whatever the bytes are, the coding stops with the answer of their encoding
 abbrev pub Stops : IndexRule → Settings → Bool → Planning → steps.Progress → Encoded →
     Option (List ℕ) → Option (List ℕ) → Option (List ℕ) → Option (List ℕ) → Type 0
 Stops f t ended p c answer out out' side side' =
@@ -51,14 +52,14 @@ Stops f t ended p c answer out out' side side' =
     → CodingGoesOn f t bytes ended p c out0 out side0 side
     → AnswersEncodedStream answer (encoding_under f t bytes) out0 out' side0 side'
 
--- the list of references where planned pictures became these
+-- the list of references where planned pictures became these pictures
 abbrev pub list_behind_all : List Picture → List Planned → List Picture → List Picture
 list_behind_all refs [] pictures = refs
 list_behind_all refs (q ∷ qs) [] = refs
 list_behind_all refs (q ∷ qs) (p ∷ pictures) = list_behind_all (list_with refs q p) qs pictures
 
--- whatever the bytes are: what was given begins each plan that may come of it, and the listed references are those of
--- pictures with the given numbers
+-- whatever the bytes are: the planned pictures that were given begin each plan that may come of them, and the listed
+-- references are those of pictures with the given numbers
 pub record PlanIsListed (t : Settings) (ended : Bool) (p : Planning) (c : steps.Progress) : Type 0 where
   pub qs : List Planned
   pub shown : List Picture

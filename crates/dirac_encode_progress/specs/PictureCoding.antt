@@ -21,13 +21,13 @@ pub record IsReadyToCode (t : Settings) (refs : List Picture) (p : Planned) (x :
   pub planned : IsPlanned p
   pub found : are_listed refs (header_of p) ≡ true
 
--- its payload, and what decoders show for it, at the index that the rule gives
+-- the payload of a planned source, and what decoders show for it, at the index that a rule gives it
 pub record IsCodedUnder (f : IndexRule) (t : Settings) (refs : List Picture) (p : Planned) (x : Picture) (coded : Coded)
     : Type 0 where
   pub payload : coded.payload.items ≡ (made_under f t refs (record { planned = p; source = x })).payload
   pub shown : coded.shown ≡ (made_under f t refs (record { planned = p; source = x })).shown
 
--- those that wait behind it can be coded too
+-- the pictures that wait behind a planned picture can be coded too
 abbrev pub AreReadyBehind : Settings → Planning → Type 0
 AreReadyBehind t behind = AllByRecursion (IsSource t) behind.waiting
 

@@ -19,7 +19,8 @@ pub record RestIsCoded (f : IndexRule) (t : Settings) (p : Planning) (c : steps.
   pub given : planner.given ≡ planner.accepted
   pub accepted : planner.accepted ≡ p.accepted
 
--- coding stops at one of them; or a fault comes behind them; or the stream is ended, and this is answered
+-- how the coding of the pictures that waited ends: it stops at one of them; or a fault comes behind them; or the stream
+-- is ended, and this is answered
 abbrev pub EndsRest : IndexRule → Settings → Planning → steps.Progress → Encoded → Encoded →
     Option (List ℕ) → Option (List ℕ) → Option (List ℕ) → Option (List ℕ) → Type 0
 EndsRest f t p c behind answer out out' side side' =

@@ -41,7 +41,7 @@ view_in s p r = record { up = up_of r.y; field = field (searched_in s p r) s }
 abbrev pub blocks_from : Settings → Picture → Picture → Option Picture → BlockTable
 blocks_from s p first second = decided_by s p (view_in s p first) (option_map (view_in s p) second)
 
--- the same where the references are looked up; a picture without a first one has no blocks
+-- the block table of a picture with the references that were looked up for it; without a first one it has no blocks
 abbrev pub blocks_among : Settings → Picture → Option Picture → Option Picture → BlockTable
 blocks_among s p None second = empty_table 0 0 0
 blocks_among s p (Some first) second = blocks_from s p first second
@@ -50,7 +50,7 @@ blocks_among s p (Some first) second = blocks_from s p first second
 unfoldable pub chosen : Settings → List Picture → Planned → Picture → BlockTable
 chosen s refs q p = blocks_among s p (named refs q.ref1) (named refs q.ref2)
 
--- just an inter picture has one
+-- the block table that is chosen for a planned picture, if it is an inter picture
 abbrev pub chosen_unless_intra : Settings → List Picture → Planned → Picture → Option BlockTable
 chosen_unless_intra s refs q p = if is_intra q.code then None else Some (chosen s refs q p)
 
@@ -58,7 +58,7 @@ chosen_unless_intra s refs q p = if is_intra q.code then None else Some (chosen 
 abbrev pub at_index : Settings → ℕ → Settings
 at_index s index = record s { index = index }
 
--- what is chosen is chosen at each index
+-- at each quantiser index this is what is chosen for a planned picture: a block table, or none for an intra picture
 abbrev pub IsChosenAtEachIndex : Settings → List Picture → Planned → Picture → Option BlockTable → Type 0
 IsChosenAtEachIndex s refs q p o = (index : ℕ) → o ≡ chosen_unless_intra (at_index s index) refs q p
 

@@ -21,7 +21,7 @@ pub record HasLuma (p : Picture) : Type 0 where
   pub down : p.y.height ≤ LARGEST_SIDE
   pub samples : All IsSample p.y.values
 
--- the luma with half samples, kept or made
+-- the luma of a picture with half samples, kept or made
 abbrev pub luma_in : Luma → Up
 luma_in (Kept up) = up.now
 luma_in (Made up) = up
@@ -36,20 +36,20 @@ pub record IsReference (s : Sequence) (r : Reference) : Type 0 where
   pub picture : IsPicture s r.picture.now
   pub luma : r.luma.now ≡ up_of r.picture.now.y
 
--- one of them or two
+-- one picture of this sequence or two, each with its luma's half samples
 pub record AreLent (s : Sequence) (r : References) : Type 0 where
   pub first : IsReference s r.first
   pub second : ForSome r.second (IsReference s)
 
--- the first picture
+-- the first picture of lent references
 abbrev pub first_of : References → Picture
 first_of r = r.first.picture.now
 
--- the second one, where there is one
+-- the second picture of lent references, where there is one
 abbrev pub second_of : References → Option Picture
 second_of r = option_map (λ (x : Reference). x.picture.now) r.second
 
--- they are the listed pictures that a planned picture refers to
+-- lent references are the listed pictures that a planned picture refers to
 pub record AreNamed (refs : List Picture) (q : Planned) (r : References) : Type 0 where
   pub first : named refs q.ref1 ≡ Some (first_of r)
   pub second : named refs q.ref2 ≡ second_of r

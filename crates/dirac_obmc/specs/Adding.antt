@@ -37,6 +37,6 @@ pub record AreWeighed (w : Weighed) (n : ℕ) : Type 0 where
   pub weights : All (λ w. w ≤ 8) w.weights.now
   pub down : w.down ≤ 8
 
--- value k times its weights across and down
+-- value k of a row times its weights across and down
 unfoldable pub weighed_at : Weighed → ℕ → ℤ
 weighed_at w k = pos (slice_index w.weights.now k * w.down) *ℤ slice_index_or w.values.now (w.at + k) (pos 0)

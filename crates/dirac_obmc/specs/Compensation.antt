@@ -63,7 +63,7 @@ y_separation m = m.prediction.grid.ybsep / down_ratio m
 abbrev pub blocks_across : Compensation → ℕ
 blocks_across m = 4 * m.blocks.across
 
--- how many stand one below the other
+-- how many blocks stand one below the other: a superblock has four
 abbrev pub blocks_down : Compensation → ℕ
 blocks_down m = 4 * m.blocks.down
 
@@ -116,7 +116,7 @@ weight_of m x y j i =
 unfoldable pub term : Compensation → ℕ → ℕ → ℕ → ℕ → ℤ
 term m x y j i = pos (weight_of m x y j i) *ℤ predicts m (block_at m.blocks i j) x y
 
--- the sum over all blocks
+-- the sum of what all blocks add at column x of row y
 abbrev pub blended : Compensation → ℕ → ℕ → ℤ
 blended m x y = signed_total (λ j. signed_total (term m x y j) (blocks_across m)) (blocks_down m)
 
@@ -124,11 +124,11 @@ blended m x y = signed_total (λ j. signed_total (term m x y j) (blocks_across m
 abbrev pub predicted_at : Compensation → ℕ → ℕ → ℤ
 predicted_at m x y = int_shr (blended m x y +ℤ pos 32) 6
 
--- the prediction of rows first to end - 1
+-- the prediction of rows first to end - 1 of a plane
 abbrev pub predicted_rows : Compensation → ℕ → ℕ → Table
 predicted_rows m first end = table_of m.width (end - first) (λ x y. predicted_at m x (first + y))
 
--- the prediction of the plane
+-- the prediction of a plane
 abbrev pub predicted_plane : Compensation → Table
 predicted_plane m = table_of m.width m.height (predicted_at m)
 

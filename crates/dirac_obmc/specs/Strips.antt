@@ -41,7 +41,7 @@ pub record IsSpan (block count len separation least most : ℕ) (s : Span) : Typ
 abbrev pub run_term : Compensation → ℕ → ℕ → ℕ → ℕ → ℕ → ℤ
 run_term m x y j i count = signed_total (λ k. term m x y j (i + k)) count
 
--- what they add at place p of the rows of a plane from row `first` on
+-- what `count` blocks from block i on of row j add together at place p of the rows of a plane from row `first` on
 abbrev pub run_added_at : Compensation → ℕ → ℕ → ℕ → ℕ → ℕ → ℤ
 run_added_at m first j i count p = run_term m (p % m.width) (first + p / m.width) j i count
 

@@ -17,7 +17,7 @@ pub record IsNearOrder (numbers : List ℕ) : Type 0 where
   pub once : (weight : ℕ → ℕ) → sum_by weight numbers ≡ sum_by weight (range_with_len 0 (length numbers))
   pub near : (place n : ℕ) → slice_get numbers place ≡ Some n → place ≤ n + 4
 
--- the numbers of every plan are in such an order
+-- the numbers of every plan of accepted settings are those from 0 on, each once, none more than four places late
 abbrev pub PlansAreNear : Type 0
 PlansAreNear = (s : Settings) (n : ℕ) → IsAccepted s → IsNearOrder (map planned_number (plan n s))
 
@@ -37,13 +37,14 @@ pub record AreDelivered (pictures : List Picture) : Type 0 where
   pub front : (front rest : List Picture) → pictures ≡ front ++ rest
       → deliver (map as_waiting front) ≡ by_number (length front - 4) pictures
 
--- so do pictures in a near order
+-- pictures whose numbers are those from 0 on, each once, none more than four places late, leave by rising number when
+-- they are pushed in the order of their list
 abbrev pub NearOrderIsDelivered : Type 0
 NearOrderIsDelivered =
     (pictures : List Picture) → IsNearOrder (map number_of pictures) → length pictures ≤ 2 ^ 31
     → AreDelivered pictures
 
--- so do the pictures that a plan becomes
+-- the pictures that a plan of accepted settings becomes leave by rising number when they are pushed in coding order
 abbrev pub PlansAreDelivered : Type 0
 PlansAreDelivered =
     (s : Settings) (n : ℕ) (pictures : List Picture) → IsAccepted s → n ≤ 2 ^ 31 → ArePlanned (plan n s) pictures

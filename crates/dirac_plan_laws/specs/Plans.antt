@@ -29,6 +29,6 @@ pub record IsPlan (n : ℕ) (planned : List Planned) : Type 0 where
   pub order : (pictures : List Picture) → ArePlanned planned pictures
       → in_delivery_order (map as_waiting pictures) ≡ by_number n pictures
 
--- so is every plan of accepted settings
+-- every plan of accepted settings, for at most 2^31 pictures, can be coded
 abbrev pub PlansCanBeCoded : Type 0
 PlansCanBeCoded = (s : Settings) (n : ℕ) → IsAccepted s → n ≤ 2 ^ 31 → IsPlan n (plan n s)

@@ -11,7 +11,7 @@ use Rattle.dirac_plan.specs.Plan.{plan}
 use Rattle.dirac_plan.specs.Waiting.{number_of}
 use Rattle.dirac_plan_laws.specs.Headers.{header_of}
 
--- these pictures have the numbers of the planned ones: they are what those become
+-- these pictures have the numbers of the planned ones, one for one: they are what the planned ones become
 abbrev pub ArePlanned : List Planned → List Picture → Type 0
 ArePlanned planned pictures = map number_of pictures ≡ map planned_number planned
 
@@ -19,7 +19,7 @@ ArePlanned planned pictures = map number_of pictures ≡ map planned_number plan
 abbrev pub reference_of : Planned → Picture → Option Picture
 reference_of p coded = as_reference p.code coded
 
--- the list once a planned picture is coded as this one
+-- the list of references once a planned picture is coded as this one
 abbrev pub list_with : List Picture → Planned → Picture → List Picture
 list_with list p coded = committed list p.retire (reference_of p coded)
 
@@ -27,24 +27,25 @@ list_with list p coded = committed list p.retire (reference_of p coded)
 abbrev pub AreListed : List Picture → Planned → Type 0
 AreListed list p = are_listed list (header_of p) ≡ true
 
--- each planned picture finds what it refers to in the list, where those before it become these pictures
+-- each planned picture finds what it refers to in the list, where the planned ones before it become these pictures
 abbrev pub ReferencesAreFound : List Picture → List Planned → List Picture → Type 0
 ReferencesAreFound list [] pictures = ⊤
 ReferencesAreFound list (p ∷ planned) [] = ⊤
 ReferencesAreFound list (p ∷ planned) (coded ∷ pictures) =
     AreListed list p × ReferencesAreFound (list_with list p coded) planned pictures
 
--- each finds it, whatever pictures of their numbers those before it become
+-- each planned picture finds what it refers to in the list, whatever pictures of their numbers the planned ones before
+-- it become
 abbrev pub AreServed : List Picture → List Planned → Type 0
 AreServed list [] = ⊤
 AreServed list (p ∷ planned) =
     AreListed list p × ((coded : Picture) → coded.number ≡ p.number → AreServed (list_with list p coded) planned)
 
--- every plan is served, from an empty list on
+-- in every plan each planned picture finds what it refers to, from an empty list on
 abbrev pub ReferencesAreListed : Type 0
 ReferencesAreListed = (s : Settings) (n : ℕ) → AreServed [] (plan n s)
 
--- what planned pictures do to the list, where they become these
+-- what planned pictures do to the list of references, where they become these pictures
 abbrev pub commits : List Planned → List Picture → List Commit
 commits [] pictures = []
 commits (p ∷ planned) [] = []

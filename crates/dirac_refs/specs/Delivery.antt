@@ -29,7 +29,7 @@ least_among ws (suc n) = if int_lt (key_at ws (suc n)) (key_at ws (least_among w
 abbrev pub least_place : List Waiting → ℕ
 least_place ws = least_among ws (length ws - 1)
 
--- no key is less than the one at this place, and each earlier one is greater
+-- no waiting picture has a key less than that of the one at this place, and each earlier one has a greater key
 pub record LeavesFirst (ws : List Waiting) (place : ℕ) : Type 0 where
   pub waits : place < length ws
   pub least : (n : ℕ) → n < length ws → key_at ws place ≤ℤ key_at ws n
@@ -57,13 +57,13 @@ pub record Leaving : Type 0 where
   pub waiting : List Waiting
   pub gone : List Picture
 
--- where more than four wait, one leaves
+-- the pictures that wait on and those that leave: where more than four wait, one leaves
 abbrev pub delivered : List Waiting → Leaving
 delivered ws =
     if nat_le (length ws) MOST_WAITING then record { waiting = ws; gone = [] }
     else record { waiting = others ws; gone = least ws }
 
--- that many pictures, as they leave one after another
+-- that many of the waiting pictures, as they leave one after another
 abbrev pub flushed_by : ℕ → List Waiting → List Picture
 flushed_by zero ws = []
 flushed_by (suc n) ws = least ws ++ flushed_by n (others ws)
@@ -72,7 +72,7 @@ flushed_by (suc n) ws = least ws ++ flushed_by n (others ws)
 abbrev pub flushed : List Waiting → List Picture
 flushed ws = flushed_by (length ws) ws
 
--- what leaves while these are pushed one after another, and what then waits
+-- the pictures that leave while more are pushed one after another behind waiting ones, and the pictures that wait then
 abbrev pub pushed_all : List Waiting → List Waiting → Leaving
 pushed_all waiting [] = record { waiting = waiting; gone = [] }
 pushed_all waiting (w ∷ ws) =
@@ -80,7 +80,7 @@ pushed_all waiting (w ∷ ws) =
     let later = pushed_all now.waiting ws in
     record { waiting = later.waiting; gone = now.gone ++ later.gone }
 
--- the pictures of a sequence that leave while these are pushed
+-- the pictures of a sequence that leave while all its pictures are pushed one after another
 abbrev pub deliver : List Waiting → List Picture
 deliver ws = (pushed_all [] ws).gone
 

@@ -24,16 +24,16 @@ as_reference code p = if is_reference code then Some p else None
 abbrev pub without : ℕ → List Picture → List Picture
 without number list = filter (λ p. not (p.number == number)) list
 
--- the retired picture leaves; where none is listed, nothing changes
+-- the list once the retired picture left; where none is retired or none of its number is listed, nothing changes
 abbrev pub retire : List Picture → Option ℕ → List Picture
 retire list None = list
 retire list (Some number) = without number list
 
--- a picture goes to the end; where eight are listed the oldest leaves
+-- the list with a picture at its end; where eight are listed the oldest leaves
 abbrev pub append : List Picture → Picture → List Picture
 append list p = (if nat_le MOST_REFERENCES (length list) then drop 1 list else list) ++ p ∷ []
 
--- a reference picture is appended in place of one of its own number
+-- the list with a reference picture, if there is one, at its end, in place of one of its own number
 abbrev pub appended : List Picture → Option Picture → List Picture
 appended list None = list
 appended list (Some p) = append (without p.number list) p
@@ -47,7 +47,7 @@ pub record Commit : Type 0 where
   pub retired : Option ℕ
   pub reference : Option Picture
 
--- the list after these pictures, in coding order
+-- the list after these coded pictures, in coding order
 abbrev pub refs_from : List Picture → List Commit → List Picture
 refs_from list [] = list
 refs_from list (c ∷ commits) = refs_from (committed list c.retired c.reference) commits

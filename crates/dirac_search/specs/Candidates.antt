@@ -15,7 +15,7 @@ vector x y = record { x = x; y = y }
 abbrev pub no_motion : Vector
 no_motion = vector (pos 0) (pos 0)
 
--- the same motion on a plane of twice the size, or in parts of half the size
+-- twice a vector: what its motion is on a plane of twice the size, or in parts of half the size
 abbrev pub twice : Vector → Vector
 twice v = vector (pos 2 *ℤ v.x) (pos 2 *ℤ v.y)
 
@@ -54,17 +54,19 @@ centres f i j =
     ++ centre_if (nat_lt 0 j) f i (j - 1))
     ++ centre_if (nat_lt (j + 1) (4 * f.down)) f i (j + 1)
 
--- those round the vectors of a coarser level
+-- the candidates of block i of row j at a finer level, behind the vector of no motion: all vectors at most 1 in each
+-- direction from twice the vectors of the coarser level for the block and its neighbours
 abbrev pub finer_candidates : Option Vectors → ℕ → ℕ → List Vector
 finer_candidates None i j = []
 finer_candidates (Some f) i j = flat_map (λ c. around c 1) (centres f i j)
 
--- twice the block's former vector, and those round it
+-- the candidates of block i of row j at a stage in parts of a sample, behind the vector of no motion: twice the block's
+-- former vector, and then all vectors at most 1 in each direction from that
 abbrev pub sub_candidates : Option Vectors → ℕ → ℕ → List Vector
 sub_candidates None i j = []
 sub_candidates (Some f) i j = twice (field_vector f i j) ∷ around (twice (field_vector f i j)) 1
 
--- the candidates behind the vector of no motion
+-- the candidates of block i of row j at a stage, behind the vector of no motion
 abbrev pub further_candidates : Stage → ℕ → Option Vectors → ℕ → ℕ → List Vector
 further_candidates (stage.Coarse l) range before i j = around no_motion range
 further_candidates (stage.Finer l) range before i j = finer_candidates before i j
@@ -74,7 +76,7 @@ further_candidates (stage.Sub q) range before i j = sub_candidates before i j
 abbrev pub candidates_of : Stage → ℕ → Option Vectors → ℕ → ℕ → List Vector
 candidates_of stage range before i j = no_motion ∷ further_candidates stage range before i j
 
--- both components are at most `reach` in magnitude
+-- both components of a vector are at most `reach` in magnitude
 pub record IsWithinReach (reach : ℕ) (v : Vector) : Type 0 where
   pub across : unsigned_abs v.x ≤ reach
   pub down : unsigned_abs v.y ≤ reach
@@ -85,7 +87,7 @@ pub record IsFormer (f : Vectors) (i j : ℕ) : Type 0 where
   pub row : j < 4 * f.down
   pub within : All (IsWithinReach (2 ^ 22)) f.vectors
 
--- they are given exactly where the stage isn't the first
+-- the vectors of a former stage, with one of block i of row j, are given exactly where the stage isn't the first
 abbrev pub HasFormer : Stage → Option Vectors → ℕ → ℕ → Type 0
 HasFormer (stage.Coarse l) None i j = Unit {0}
 HasFormer (stage.Coarse l) (Some f) i j = ⊥

@@ -22,7 +22,7 @@ level_of_stage (stage.Sub q) = 0
 abbrev pub window_start : ℕ → ℕ → ℕ → ℕ
 window_start block separation level = block * separation / 2 ^ level
 
--- and how many samples its window has: at least one
+-- how many samples the window of a block has at a level, in a direction with this separation: at least one
 abbrev pub window_size : ℕ → ℕ → ℕ
 window_size separation level = if separation / 2 ^ level == 0 then 1 else separation / 2 ^ level
 

@@ -13,7 +13,7 @@ use Rattle.dirac_search.specs.Costs.{cost_of}
 use Rattle.dirac_search.specs.Given.{Searched}
 use Rattle.dirac_search.specs.Kept.{kept_candidates}
 
--- the first of least cost of the candidates that may be taken
+-- the first of least cost of the candidates of block i of row j that may be taken at a stage
 unfoldable pub best_of : Searched → Settings → Stage → Option Vectors → ℕ → ℕ → Vector
 best_of g s stage before i j =
     first_least (cost_of g s.bias stage i j) no_motion (kept_candidates g s stage before i j)
@@ -66,13 +66,13 @@ pub record IsSearch (g : Searched) (s : Settings) : Type 0 where
   pub across : g.across ≤ MOST_SUPERBLOCKS
   pub down : g.down ≤ MOST_SUPERBLOCKS
 
--- the vectors of a former stage of this picture
+-- the vectors of a former stage of a search, for as many superblocks as are searched
 pub record IsFormerField (g : Searched) (f : Vectors) : Type 0 where
   pub across : f.across ≡ g.across
   pub down : f.down ≡ g.down
   pub within : All (IsWithinReach (2 ^ 22)) f.vectors
 
--- they are given exactly where the stage isn't the first
+-- the vectors of a former stage of a search are given exactly where the stage isn't the first
 abbrev pub HasFormerField : Searched → Stage → Option Vectors → Type 0
 HasFormerField g (stage.Coarse l) None = Unit {0}
 HasFormerField g (stage.Coarse l) (Some f) = ⊥

@@ -14,20 +14,20 @@ use Rattle.dirac_search.specs.declared.tried.Tried.{Tried}
 use Rattle.dirac_search.specs.Given.{Searched}
 use Rattle.dirac_search.specs.Rows.{apart_at}
 
--- the samples of a source
+-- the bytes are the samples of a plane
 abbrev pub AreBytes : Table → Bytes → Type 0
 AreBytes t b = b.source.items ≡ t.values
 
--- the samples of the source of a search
+-- the bytes are the samples of the source of a search, on level 0
 abbrev pub AreBytesOf : Searched → Bytes → Type 0
 AreBytesOf g b = AreBytes (slice_index_or g.source 0 no_plane) b
 
--- where there are any
+-- where bytes are given, they are the samples of the source of a search
 abbrev pub AreGiven : Searched → Option Bytes → Type 0
 AreGiven g None = Unit {0}
 AreGiven g (Some b) = AreBytesOf g b
 
--- where row r begins
+-- the place in a list at which row r begins, where rows are a step apart
 abbrev pub row_at : Strided → ℕ → ℕ
 row_at s r = s.first + r * s.step
 
@@ -48,11 +48,11 @@ mean_behind b c k =
     (values_from b (c.left + c.under) k)
     (values_from b (c.right + c.under) k)
 
--- how far a value and that mean are apart
+-- how far a value k places behind a place is from the mean of the values k places behind four corners
 unfoldable pub apart_from_mean : List ℤ → ℕ → List ℤ → Corners → ℕ → ℕ
 apart_from_mean a first b c k = unsigned_abs (values_from a first k -ℤ mean_behind b c k)
 
--- the corners of row r, where rows are so many places apart
+-- the four corners of row r, where rows are `step` places apart
 abbrev pub corners_at : Corners → ℕ → ℕ → Corners
 corners_at c step r = record { left = c.left + r * step; right = c.right + r * step; under = c.under }
 
@@ -66,11 +66,13 @@ pub record HasSpot (precision : ℕ) (position : ℤ) (s : Spot) : Type 0 where
   pub rest : rest_at position (precision - 1) ≡ pos s.rest
   pub near : s.rest ≤ 1
 
--- the same of the position to which a component leads from a place of a plane
+-- the place at or before the position to which a component of a vector leads from a place of a plane, and how far the
+-- position lies behind it
 abbrev pub IsSpot : ℕ → ℕ → ℤ → Spot → Type 0
 IsSpot precision place component s = HasSpot precision (pos (2 ^ precision * place) +ℤ component) s
 
--- so many samples, a whole sample apart from it on, lie before this end
+-- a spot to which a component of a vector leads from a place of a plane: `count` samples, a whole sample apart from the
+-- spot on, lie before `end`
 pub record IsSpotBefore (precision place : ℕ) (component : ℤ) (count end : ℕ) (s : Spot) : Type 0 where
   pub spot : IsSpot precision place component s
   pub inside : s.place + 2 * count + s.rest ≤ end

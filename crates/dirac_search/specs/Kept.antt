@@ -33,7 +33,8 @@ unfoldable pub stage_keeps : Searched → Settings → Stage → ℕ → ℕ →
 stage_keeps g s stage i j v =
     keeps_inside (searched_blocks g s) (precision_of stage) i j (vector_times (2 ^ level_of_stage stage) v)
 
--- those of these vectors that may be taken: all, and where streams are to be shown alike, those that keep inside
+-- the vectors among these that may be taken at a stage: all, and where streams are to be shown alike, just those that
+-- keep inside
 unfoldable pub candidates_kept : Searched → Settings → Stage → ℕ → ℕ → List Vector → List Vector
 candidates_kept g s stage i j vs = if s.alike == 0 then vs else filter (stage_keeps g s stage i j) vs
 

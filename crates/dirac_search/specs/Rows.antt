@@ -19,12 +19,14 @@ IsRowNearest t y row =
 abbrev pub clamped_row : Table → ℤ → ℤ → ℕ → ℤ
 clamped_row t x y k = clamped_at t (x +ℤ pos k) y
 
--- the sum of absolute differences of that many samples of two such rows
+-- the sum of absolute differences of `count` samples of a row of one plane and of a row of another, each from a
+-- position on; all positions are clamped
 unfoldable pub row_apart : Table → Table → ℤ → ℤ → ℤ → ℤ → ℕ → ℕ
 row_apart source reference x y across down count =
     values_apart (clamped_row source x y) (clamped_row reference across down) count
 
--- the same for column x of row y and the whole samples to which a vector leads
+-- the sum of absolute differences of `count` samples of a source, from column x of row y on, and of the whole samples
+-- of a reference to which a vector leads from there
 abbrev pub whole_row_apart : Table → Table → ℕ → ℕ → Vector → ℕ → ℕ
 whole_row_apart source reference x y v count =
     row_apart source reference (pos x) (pos y) (pos x +ℤ v.x) (pos y +ℤ v.y) count
@@ -42,11 +44,13 @@ abbrev pub sub_row_from : Up → ℕ → ℕ → ℕ → Vector → ℕ → ℤ
 sub_row_from up q x y v k =
     sub_sample up q ((pos (2 ^ q * x) +ℤ v.x) +ℤ pos (2 ^ q * k)) (pos (2 ^ q * y) +ℤ v.y)
 
--- the sum of absolute differences of that many samples of row y of a plane and of those
+-- the sum of absolute differences of `count` samples of a source, from column x of row y on, and of the samples of a
+-- reference to which a vector in parts of a sample leads from there
 unfoldable pub sub_row_apart : Table → Up → ℕ → ℕ → ℕ → Vector → ℕ → ℕ
 sub_row_apart source up q x y v count = values_apart (row_from source x y) (sub_row_from up q x y v) count
 
--- the same for four rows from row y on, moved down by `part`, one row after another
+-- the sum of absolute differences of four rows of `count` samples: of one plane from column x of row y on, of another
+-- from column `across` of row y + `part` on
 abbrev pub four_rows_apart : Table → Table → ℕ → ℕ → ℕ → ℤ → ℕ → ℕ
 four_rows_apart s t x across y part count =
     let row : ℕ → ℕ = λ r. row_apart s t (pos x) (pos (y + r)) (pos across) (pos (y + r) +ℤ part) count in
@@ -58,17 +62,20 @@ four_rows_from s x y samples =
     let row : ℕ → ℕ = λ r. values_apart (row_from s x (y + r)) (values_from samples (8 * r)) 8 in
     ((row 0 + row 1) + row 2) + row 3
 
--- the same of four rows of eight samples to which a vector in parts of a sample leads
+-- the sum of absolute differences of four rows of eight samples of a source, from column x of row y on, and of the
+-- samples of a reference to which a vector in parts of a sample leads from there
 abbrev pub four_sub_rows_apart : Table → Up → ℕ → ℕ → ℕ → Vector → ℕ
 four_sub_rows_apart s up q x y v =
     let row : ℕ → ℕ = λ r. sub_row_apart s up q x (y + r) v 8 in ((row 0 + row 1) + row 2) + row 3
 
--- the differences of the first rows of a window and of the whole samples to which a vector leads
+-- the sum of absolute differences of the first rows of a window in a source and of the whole samples of a reference to
+-- which a vector leads from there
 abbrev pub whole_rows : Table → Table → Window → Vector → ℕ → ℕ
 whole_rows source reference w v rows =
     sum_below (λ r. whole_row_apart source reference w.x (w.y + r) v w.columns) rows
 
--- the same, where the vector counts parts of a sample
+-- the sum of absolute differences of the first rows of a window in a source and of the samples of a reference to which
+-- a vector in parts of a sample leads from there
 abbrev pub sub_rows : Table → Up → ℕ → Window → Vector → ℕ → ℕ
 sub_rows source up q w v rows = sum_below (λ r. sub_row_apart source up q w.x (w.y + r) v w.columns) rows
 

@@ -12,15 +12,16 @@ use Rattle.dirac_search.specs.Fields.{HasFormerField, IsSearch, IsStage, best_of
 use Rattle.dirac_search.specs.Given.{searched_of, lent}
 use Rattle.dirac_search.specs.InBytes.{AreGiven}
 
--- settings and sizes are in their ranges, the settings have the stage, the bytes are the samples of the source,
--- and the vectors before it are there
+-- settings and sizes are in their ranges, the settings have the stage, the bytes are the samples of the source, and the
+-- vectors of the former stage are there
 pub record IsStaged (x : Staged) (before : Option Vectors) : Type 0 where
   pub search : IsSearch (searched_of x.search.now) x.settings.now
   pub stage : IsStage x.settings.now x.stage
   pub bytes : AreGiven (searched_of x.search.now) (lent x.bytes)
   pub former : HasFormerField (searched_of x.search.now) x.stage before
 
--- the same of block i of row j, and its vector before it
+-- block i of row j can be searched at a stage: settings and sizes are in their ranges, the settings have the stage, the
+-- bytes are the samples of the source, and the vectors of the former stage are there
 pub record IsSearched (x : Staged) (before : Option Vectors) (i j : ℕ) : Type 0 where
   pub search : IsSearch (searched_of x.search.now) x.settings.now
   pub stage : IsStage x.settings.now x.stage
@@ -37,11 +38,11 @@ pub record IsCompared (x : Staged) (w : Window) : Type 0 where
   pub bytes : AreGiven (searched_of x.search.now) (lent x.bytes)
   pub window : IsBlockWindow w
 
--- what a vector costs a window
+-- what a vector costs a window at a stage
 abbrev pub cost_at : Staged → Window → Vector → ℕ
 cost_at x w v = window_cost (searched_of x.search.now) x.settings.now.bias x.stage w v
 
--- the first candidate of least cost
+-- the first of least cost of the candidates of block i of row j that may be taken at a stage
 abbrev pub best_at : Staged → Option Vectors → ℕ → ℕ → Vector
 best_at x before i j = best_of (searched_of x.search.now) x.settings.now x.stage before i j
 

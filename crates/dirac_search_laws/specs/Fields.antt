@@ -19,25 +19,26 @@ AreLeastVectors g s stage before after =
     (i j : ℕ) → i < 4 * g.across → j < 4 * g.down
     → IsFirstOfLeastCost (cost_of g s.bias stage i j) (taken_candidates g s stage before i j) (field_vector after i j)
 
--- this holds after the coarse stage, after each finer one, and after each in parts of a sample: the field is what
--- stands after the last of them
+-- the vectors are of least cost after the coarse stage, after each finer one, and after each in parts of a sample: the
+-- field of a search is the vectors after its last stage
 pub record IsLeastField (g : Searched) (s : Settings) : Type 0 where
   pub coarse : AreLeastVectors g s (stage.Coarse s.pyramid) None (after_finer g s 0)
   pub finer : (k : ℕ)
       → AreLeastVectors g s (stage.Finer (s.pyramid - suc k)) (Some (after_finer g s k)) (after_finer g s (suc k))
   pub sub : (q : ℕ) → AreLeastVectors g s (stage.Sub (suc q)) (Some (after_sub g s q)) (after_sub g s (suc q))
 
--- it holds of every search
+-- in every search the vectors are of least cost after each stage
 abbrev pub VectorsCostLeast : Type 0
 VectorsCostLeast = (g : Searched) (s : Settings) → IsLeastField g s
 
--- where streams needn't be shown alike, all candidates may be taken
+-- where streams needn't be shown alike, all candidates may be taken at a stage
 abbrev pub AllMayBeTaken : Type 0
 AllMayBeTaken =
     (g : Searched) (s : Settings) (stage : Stage) (before : Option Vectors) (i j : ℕ) → s.alike ≡ 0
     → taken_candidates g s stage before i j ≡ candidates_of stage s.range before i j
 
--- where they must, just those that keep inside, in their order; the vector of no motion is one of them
+-- where streams are to be shown alike, just the candidates that keep inside may be taken at a stage, in their order;
+-- the vector of no motion is one of them
 abbrev pub InsidesMayBeTaken : Type 0
 InsidesMayBeTaken =
     (g : Searched) (s : Settings) (stage : Stage) (before : Option Vectors) (i j : ℕ)
@@ -45,7 +46,7 @@ InsidesMayBeTaken =
     → taken_candidates g s stage before i j
     ≡ filter (stage_keeps g s stage i j) (candidates_of stage s.range before i j)
 
--- and the vectors that are found keep inside
+-- where streams are to be shown alike, all vectors of the field of a search keep inside
 abbrev pub FieldsKeepInside : Type 0
 FieldsKeepInside =
     (g : Searched) (s : Settings) → IsSearch g s → (s.alike ≡ 0 → ⊥)

@@ -16,21 +16,23 @@ pub record AreSomeParts (p : Parts) : Type 0 where
   pub inside : p.end ≤ p.all
   pub at_most_64 : p.all ≤ 64
 
--- the first half of more than one part, and the second
+-- the first half of more than one part
 abbrev pub first_half_of : Parts → Parts
 first_half_of p = record { first = p.first; end = p.first + (p.end - p.first) / 2; all = p.all }
 
+-- the second half of more than one part
 abbrev pub second_half_of : Parts → Parts
 second_half_of p = record { first = p.first + (p.end - p.first) / 2; end = p.end; all = p.all }
 
--- the first row of a plane that stands in these parts, and the row behind them
+-- the first row of a plane that stands in these parts
 abbrev pub first_row_of_parts : Sequence → Parts → Component → ℕ
 first_row_of_parts s p c = first_row (height_of s c) p.all p.first
 
+-- the row of a plane just behind those that stand in these parts
 abbrev pub end_row_of_parts : Sequence → Parts → Component → ℕ
 end_row_of_parts s p c = first_row (height_of s c) p.all p.end
 
--- how many samples of a plane stand in them
+-- how many samples of a plane stand in these parts
 unfoldable pub room_in : Sequence → Parts → Component → ℕ
 room_in s p c = width_of s c * (end_row_of_parts s p c - first_row_of_parts s p c)
 
@@ -46,7 +48,7 @@ pub record IsRoomForPicture (s : Sequence) (p : Picture) : Type 0 where
   pub u : FitsPlane s component.U p.u
   pub v : FitsPlane s component.V p.v
 
--- these parts of a plane
+-- the values of a plane that stand in these parts, by rows
 unfoldable pub part_values : Sequence → (Component → Table) → Parts → Component → List ℤ
 part_values s planes p c = values_between s planes c (first_row_of_parts s p c) (end_row_of_parts s p c)
 

@@ -11,12 +11,13 @@ use Rattle.dirac_slices.specs.declared.prepared.Prepared.{Prepared}
 use Rattle.dirac_slices.specs.Given.{Lent}
 use Rattle.dirac_slices.specs.Places.{component_at}
 
--- the first of a plane's three rows makes its residual, and no other
+-- what the first of a plane's three rows makes, and no other: the plane's residual
 abbrev pub residual_in : Lent → ℕ → Component → Option Table
 residual_in g zero c = Some (residual_among g.sequence Inter c g.residual)
 residual_in g (suc n) c = None
 
--- the second makes its part of the first reference, the third that of the second reference, where there is one
+-- what the second and third of a plane's three rows make: the plane of the first reference with half samples, and that
+-- of the second reference, where there is one
 abbrev pub up_in : Lent → ℕ → Component → Option Up
 up_in g zero c = None
 up_in g (suc zero) c = Some (up_of (plane_of g.first c))
@@ -27,6 +28,6 @@ pub record IsPreparedAt (g : Lent) (r : ℕ) (p : Prepared) : Type 0 where
   pub residual : p.residual ≡ residual_in g (r % 3) (component_at (r / 3))
   pub up : p.up ≡ up_in g (r % 3) (component_at (r / 3))
 
--- what all rows make
+-- what all nine rows of the call that prepares an inter picture make
 abbrev pub ArePrepared : Lent → List Prepared → Type 0
 ArePrepared g items = AnswerRows (IsPreparedAt g) 9 items

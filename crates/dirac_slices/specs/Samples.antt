@@ -18,15 +18,15 @@ pub record IsIntra (i : Intra) : Type 0 where
   pub sequence : IsSequence i.sequence.now
   pub residual : IfSome i.residual.now (IsResidual i.sequence.now)
 
--- the planes of its samples
+-- the planes of an intra picture's samples
 abbrev pub intra_planes : Intra → Component → Table
 intra_planes i c = intra_samples i.sequence.now i.residual.now c
 
--- the residual of its plane of this number
+-- the residual of an intra picture's plane of this number
 pub record IsResidualAt (i : Intra) (plane : ℕ) (t : Table) : Type 0 where
   pub is : t ≡ residual_among i.sequence.now OfIntra (component_at plane) i.residual.now
 
--- the residuals of its planes Y, U, V
+-- the residuals of an intra picture's planes Y, U, V
 abbrev pub AreResiduals : Intra → List Table → Type 0
 AreResiduals i items = AnswerRows (IsResidualAt i) 3 items
 
@@ -34,10 +34,11 @@ AreResiduals i items = AnswerRows (IsResidualAt i) 3 items
 abbrev pub inter_planes : Lent → Component → Table
 inter_planes g c = inter_plane g.sequence (Some g.first) g.second g.motion g.residual c
 
--- rows from .. to of one of these planes, as a table and as a list
+-- rows from .. to of one of a picture's planes, as a table
 abbrev pub samples_between : Sequence → (Component → Table) → Component → ℕ → ℕ → Table
 samples_between s planes c from to = table_of (width_of s c) (to - from) (λ x y. table_at (planes c) x (from + y))
 
+-- rows from .. to of one of a picture's planes, as a list
 abbrev pub values_between : Sequence → (Component → Table) → Component → ℕ → ℕ → List ℤ
 values_between s planes c from to = filled (width_of s c) (to - from) (λ x y. table_at (planes c) x (from + y))
 
@@ -47,5 +48,6 @@ pub record FitsPlane (s : Sequence) (c : Component) (t : Table) : Type 0 where
   pub down : t.height ≡ height_of s c
   pub whole : length t.values ≡ width_of s c * height_of s c
 
+-- all planes are as large as those of a picture of this sequence, and whole
 abbrev pub FitPlanes : Sequence → (Component → Table) → Type 0
 FitPlanes s planes = (c : Component) → FitsPlane s c (planes c)

@@ -24,7 +24,7 @@ texts_of t previous (m ∷ ms) =
 abbrev pub texts_before : Settings → List Made → Made → List UnitText
 texts_before t ms m = texts_of t 0 ms ++ header_texts t m (last_length 0 ms)
 
--- behind these units, at the length of the stream, the end unit is missing
+-- the fault of a stream that stops before a picture: behind its units, at its length, the end unit is missing
 abbrev pub end_missing : Settings → List Made → Made → Fault
 end_missing t ms m =
     record { unit = length (texts_before t ms m); at = length (stream_before t ms m); cause = MissingEnd }
@@ -41,13 +41,15 @@ ShowsAllBefore t ms m bytes =
     (o : Outcome) × IsShown bytes o × (o.shown ≡ in_delivery_order (keyed_reconstructions ms))
     × (o.end ≡ Some (end_missing t ms m))
 
--- so does the stream before a picture
+-- the stream before a picture shows the pictures before it in the order of delivery, all that waited among them, up to
+-- the missing end unit
 abbrev pub StoppedStreamsShowTheirPictures : Type 0
 StoppedStreamsShowTheirPictures =
     (t : Settings) (ms : List Made) (m : Made) → IsAccepted t → AreMade t [] ms → Begins ms
     → ShowsAllBefore t ms m (stream_before t ms m)
 
--- so does what an encoding of raw pictures writes that stops before a picture whose unit is too long
+-- what an encoding of raw pictures writes that stops before a picture whose unit is too long shows the pictures before
+-- it in the order of delivery, all that waited among them, up to the missing end unit
 abbrev pub StoppedEncodingsShowTheirPictures : Type 0
 StoppedEncodingsShowTheirPictures =
     (f : IndexRule) → GivesIndices f → (t : Settings) (bytes : List ℕ) (m : Made)

@@ -33,8 +33,8 @@ returns-clause-fits c =
     let same = ap (coded_by t c.args.asked.now.refs.now c.args.asked.now.planned.now c.args.asked.now.source.now) (c.requires.blocks c.args.index) ∙ coded_chosen t c.args.asked.now.refs.now c.args.asked.now.planned.now c.args.asked.now.source.now in
     found_so c.code_within.result (λ x e f. omega (arith, f, ap length (e ∙ ap (λ (k : CodedPicture). payload_of t k) same), c.if-budget-parse_info.false)) c.code_within.ensures.payload c.code_within.ensures.fits
 
-pub returns-clause-long : goal.returns-clause-long
-returns-clause-long c =
+pub returns-clause-longer_where_none : goal.returns-clause-longer_where_none
+returns-clause-longer_where_none c =
     let t = at_index c.args.asked.now.settings.now c.args.index in
     let same = ap (coded_by t c.args.asked.now.refs.now c.args.asked.now.planned.now c.args.asked.now.source.now) (c.requires.blocks c.args.index) ∙ coded_chosen t c.args.asked.now.refs.now c.args.asked.now.planned.now c.args.asked.now.source.now in
-    λ none. let long = c.code_within.ensures.long none in omega (arith, long, ap length (ap (λ (k : CodedPicture). payload_of t k) same), c.if-budget-parse_info.false)
+    λ none. let long = c.code_within.ensures.longer_where_none none in omega (arith, long, ap length (ap (λ (k : CodedPicture). payload_of t k) same), c.if-budget-parse_info.false)

@@ -9,7 +9,7 @@ pub indices-preserved : goal.indices-preserved
 indices-preserved c =
     let t = c.args.asked.now.settings.now in
     let j : Job = record { planned = c.args.asked.now.planned.now; source = c.args.asked.now.source.now } in
-    let long : c.args.budget < length_at t c.args.asked.now.refs.now j c.indices.index = c.in_ok-coded.ensures.long (ap Ok c.in_default.is) in
+    let long : c.args.budget < length_at t c.args.asked.now.refs.now j c.indices.index = c.in_ok-coded.ensures.longer_where_none (ap Ok c.in_default.is) in
     more_long (length_at t c.args.asked.now.refs.now j) c.args.budget t.index c.indices.index c.indices.invariant long
 
 pub returns-clause-least : goal.returns-clause-least
