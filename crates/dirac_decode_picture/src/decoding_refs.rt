@@ -86,8 +86,8 @@ impl DecodingRefs {
     }
 
     /// Keeps half samples of the pictures that a coded picture refers to, and of no other, where `double` makes those
-    /// that aren't kept yet, and may take the room of those that are kept no more; an intra picture changes nothing.
-    pub fn keep_named_halves_by<F: Fn(&Picture, Option<Halves>) -> Result<Halves, NoMemory>>(
+    /// that aren't kept yet; an intra picture changes nothing.
+    pub fn keep_named_halves_by<F: Fn(&Picture) -> Result<Halves, NoMemory>>(
         &mut self,
         double: &F,
         header: &PictureHeader,
@@ -101,8 +101,8 @@ impl DecodingRefs {
     }
 
     /// Keeps half samples of the pictures of these numbers, and of no other, where `double` makes those that aren't
-    /// kept yet, and may take the room of those that are kept no more. Where no number is given no room is left either.
-    pub fn keep_halves_by<F: Fn(&Picture, Option<Halves>) -> Result<Halves, NoMemory>>(
+    /// kept yet.
+    pub fn keep_halves_by<F: Fn(&Picture) -> Result<Halves, NoMemory>>(
         &mut self,
         double: &F,
         numbers: &[u32],

@@ -3,7 +3,7 @@ ghost use Rattle.std.specs.Prelude.{◌≡◌, ◌<◌, ◌≤◌, true};
 use dirac_sequence_header::Sequence;
 use dirac_slices::workers_for;
 
-/// Workers that share the work on a picture or on pictures, and the gate that each passes before a row or a share.
+/// Workers that share the work on a picture or on pictures, and the gate that each passes before a row.
 #[derive(Drop)]
 pub(crate) struct Crew<'a, R, G> {
     pub(crate) rt: &'a R,

@@ -1,30 +1,71 @@
-//! Half samples of reference pictures, made one plane after another, by workers that share its rows.
-ghost use Rattle.std.specs.Prelude.{◌≡◌, IfOk};
+//! Half samples of reference pictures, made by workers: a plane each, one picture after another, so that three workers
+//! at most are at work.
+ghost use Rattle.std.specs.Prelude.{◌≡◌, ℕ, length, IfOk};
 ghost use Rattle.std.specs.List.{All};
 ghost use Rattle.std.specs.Thread.{IsSync};
+ghost use Rattle.dirac_upconvert.specs.SubSamples.{Up};
 ghost use Rattle.dirac_refs.specs.Halves.{AreHalves, CanBeDoubled};
+ghost use Rattle.dirac_rows.specs.Answers.{AnswerRows};
+ghost use Rattle.dirac_pardec.specs.Halves.{plane_of_number, up_of_number};
 
 use crate::crew::Crew;
-use dirac_common::{NoMemory, Picture, RowGate};
+use dirac_common::{NoMemory, Picture, Plane, RowGate};
 use dirac_decode_picture::DecodingRefs;
 use dirac_header::PictureHeader;
-use dirac_refs::{Halves, halves_by_workers};
+use dirac_refs::Halves;
+use dirac_rows::{map_rows, three_of};
+use dirac_upconvert::{UpPlane, upconvert};
 use std::alloc::Global;
 use std::marker::Sync;
 use std::thread::Threads;
 
-/// All planes of a picture with their half samples, made by these workers, in the room of another picture's, where that
-/// one's plane has the same width and height.
-fn halves_by_crew<R: Threads + Sync, G: RowGate>(
+/// Lends the plane of this number.
+fn plane_at(picture: &Picture, plane: u32) -> &Plane
+    ensures { result.now ≡ plane_of_number picture.now plane }
+{
+    match plane {
+        0 => &picture.y,
+        1 => &picture.u,
+        _ => &picture.v,
+    }
+}
+
+/// The plane of this number with its half samples.
+fn up_at(alloc: Global, picture: &Picture, plane: u32) -> Result<UpPlane, NoMemory>
+    requires { CanBeDoubled picture.now }
+    ensures { IfOk result (λ u. u ≡ up_of_number picture.now plane) }
+{
+    upconvert(alloc, plane_at(picture, plane))
+}
+
+/// The planes Y, U, V.
+fn put_together(planes: Vec<UpPlane>) -> Halves
+    requires { length planes.items ≡ 3 }
+    ensures { (f : ℕ → Up) → AnswerRows (λ r u. u ≡ f r) 3 planes.items → result ≡ record {
+      y = f 0;
+      u = f 1;
+      v = f 2;
+    } }
+{
+    let (y, u, v) = three_of(planes);
+    Halves { y, u, v }
+}
+
+/// All planes of a picture with their half samples, each made by a worker.
+fn halves_by_rows<R: Threads + Sync, G: RowGate>(
     crew: &Crew<R, G>,
     alloc: Global,
     picture: &Picture,
-    others: Option<Halves>,
 ) -> Result<Halves, NoMemory>
     requires { CanBeDoubled picture.now }
     ensures { IfOk result (AreHalves picture.now) }
 {
-    halves_by_workers(crew.rt, alloc, picture, others, crew.workers, crew.gate)
+    let work = |plane: u32| -> Result<UpPlane, NoMemory>
+        requires { CanBeDoubled picture.now }
+        ensures { IfOk result (λ u. u ≡ up_of_number picture.entry.now plane) }
+    { up_at(alloc, picture, plane) };
+    let planes = map_rows(crew.rt, alloc, 3, crew.workers, crew.gate, &work)?;
+    Ok(put_together(planes))
 }
 
 /// Keeps half samples of the pictures of these numbers, and of no other.
@@ -37,10 +78,10 @@ pub(crate) fn keep_halves_by_rows<R: Threads + Sync, G: RowGate>(
     requires { All CanBeDoubled refs.old }
     ensures { refs.new ≡ refs.old }
 {
-    let double = |picture: &Picture, others: Option<Halves>| -> Result<Halves, NoMemory>
+    let double = |picture: &Picture| -> Result<Halves, NoMemory>
         requires { IsSync R.row × IsSync G.row × CanBeDoubled picture.now }
         ensures { IfOk result (AreHalves picture.now) }
-    { halves_by_crew(crew, alloc, picture, others) };
+    { halves_by_rows(crew, alloc, picture) };
     refs.keep_halves_by(&double, numbers);
 }
 
@@ -55,9 +96,9 @@ pub(crate) fn keep_named_halves<R: Threads + Sync, G: RowGate>(
     requires { All CanBeDoubled refs.old }
     ensures { refs.new ≡ refs.old }
 {
-    let double = |picture: &Picture, others: Option<Halves>| -> Result<Halves, NoMemory>
+    let double = |picture: &Picture| -> Result<Halves, NoMemory>
         requires { IsSync R.row × IsSync G.row × CanBeDoubled picture.now }
         ensures { IfOk result (AreHalves picture.now) }
-    { halves_by_crew(crew, alloc, picture, others) };
+    { halves_by_rows(crew, alloc, picture) };
     refs.keep_named_halves_by(&double, header);
 }

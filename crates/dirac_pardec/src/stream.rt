@@ -27,8 +27,7 @@ use std::thread::Threads;
 /// where they are at least two, more than half as many as there are workers, and of at most 2^23 luma samples. All
 /// other pictures are read and rebuilt as `read_planes_rows` and `rebuild_rows` do, and by a single worker as
 /// `decode_stream` does. Before inter pictures are rebuilt, the half samples of each picture that they refer to and
-/// that keeps none yet are made, of one plane after another, by workers that share its rows, unless the planes are too
-/// large to be kept.
+/// that keeps none yet are made by a map whose rows are its three planes, unless these are too large to be kept.
 pub fn decode_rows<R: Threads + Sync, S: Source, K: Sink, G: RowGate>(
     rt: &R,
     alloc: Global,

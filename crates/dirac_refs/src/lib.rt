@@ -14,5 +14,5 @@ pub use copied::reference_of;
 pub use delivery::{Delivery, MOST_WAITING, key};
 pub use laws::{least_leaves_first, refs_are_few};
 pub use ref_buffer::{MOST_REFERENCES, RefBuffer};
-pub use reference::{Halves, MOST_KEPT_SAMPLES, Reference, halves_by_workers};
+pub use reference::{Halves, MOST_KEPT_SAMPLES, Reference};
 pub use waiting::Waiting;

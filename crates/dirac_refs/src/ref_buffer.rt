@@ -1,5 +1,5 @@
-ghost use Rattle.std.specs.Prelude.{◌≡◌, ◌<◌, ◌≤◌, [], length, IfOk};
-ghost use Rattle.std.specs.List.{All, remove};
+ghost use Rattle.std.specs.Prelude.{◌≡◌, ◌≤◌, [], length, IfOk};
+ghost use Rattle.std.specs.List.{All};
 ghost use Rattle.std.specs.Option.{option_copied};
 ghost use Rattle.dirac_refs.specs.Halves.{AreHalves, CanBeDoubled, DoublesPictures};
 ghost use Rattle.dirac_refs.specs.References as references;
@@ -18,8 +18,6 @@ pub const MOST_REFERENCES: usize = 8;
 #[derive(Drop)]
 pub struct RefBuffer {
     list: Bounded<Reference, MOST_REFERENCES>,
-    /// The half samples of a picture that keeps them no more, until others take their room.
-    room: Option<Halves>,
 }
 
 impl Model for RefBuffer {
@@ -41,7 +39,6 @@ impl RefBuffer {
     {
         RefBuffer {
             list: Bounded::new(),
-            room: None,
         }
     }
 
@@ -85,17 +82,16 @@ impl RefBuffer {
         requires { All CanBeDoubled self.old }
         ensures { self.new ≡ self.old }
     {
-        let double = |picture: &Picture, others: Option<Halves>| -> Result<Halves, NoMemory>
+        let double = |picture: &Picture| -> Result<Halves, NoMemory>
             requires { CanBeDoubled picture.now }
             ensures { IfOk result (AreHalves picture.now) }
-        { halves_of(alloc, picture, others) };
+        { halves_of(alloc, picture) };
         self.keep_named_halves_by(&double, first, second);
     }
 
     /// Keeps the half samples of the pictures of these numbers, and of no other picture; `double` makes those that
-    /// aren't kept yet, and may take the room of those that are kept no more. Without a first number nothing changes.
-    /// The list stays as it is.
-    pub fn keep_named_halves_by<F: Fn(&Picture, Option<Halves>) -> Result<Halves, NoMemory>>(
+    /// aren't kept yet. Without a first number nothing changes. The list stays as it is.
+    pub fn keep_named_halves_by<F: Fn(&Picture) -> Result<Halves, NoMemory>>(
         &mut self,
         double: &F,
         first: Option<u32>,
@@ -115,10 +111,9 @@ impl RefBuffer {
     }
 
     /// Keeps the half samples of the pictures of these numbers, and of no other picture; `double` makes those that
-    /// aren't kept yet, and may take the room of those that are kept no more. Where memory is refused for one of them,
-    /// and of a plane above `MOST_KEPT_SAMPLES`, none are kept. Where no number is given, no room is left either. The
-    /// list stays as it is.
-    pub fn keep_halves_by<F: Fn(&Picture, Option<Halves>) -> Result<Halves, NoMemory>>(
+    /// aren't kept yet. Where memory is refused for one of them, and of a plane above `MOST_KEPT_SAMPLES`, none are
+    /// kept. The list stays as it is.
+    pub fn keep_halves_by<F: Fn(&Picture) -> Result<Halves, NoMemory>>(
         &mut self,
         double: &F,
         numbers: &[u32],
@@ -129,11 +124,7 @@ impl RefBuffer {
     {
         for _ in 0..self.list.len() {
             let reference = self.list.remove(0);
-            let turned = kept(double, numbers, reference, &mut self.room);
-            self.list.push(turned);
-        }
-        if numbers.is_empty() {
-            self.room = None;
+            self.list.push(kept(double, numbers, reference));
         }
     }
 
@@ -145,11 +136,11 @@ impl RefBuffer {
         ensures at_most_8_references { length self.new ≤ MOST_REFERENCES }
     {
         if let Some(number) = retire {
-            leave(&mut self.list, number, &mut self.room);
+            leave(&mut self.list, number);
         }
         if let Some(picture) = picture {
-            leave(&mut self.list, picture.number, &mut self.room);
-            append_last(&mut self.list, picture, &mut self.room);
+            leave(&mut self.list, picture.number);
+            append_last(&mut self.list, picture);
         }
     }
 
@@ -163,51 +154,30 @@ impl RefBuffer {
 }
 
 /// A reference with its half samples if it is one of the pictures of these numbers, else without.
-fn kept<F: Fn(&Picture, Option<Halves>) -> Result<Halves, NoMemory>>(
+fn kept<F: Fn(&Picture) -> Result<Halves, NoMemory>>(
     double: &F,
     numbers: &[u32],
     reference: Reference,
-    room: &mut Option<Halves>,
 ) -> Reference
     requires doubles { DoublesPictures (F.pre double.now) (F.post double.now) }
     requires can_be_doubled { CanBeDoubled reference }
     ensures { result ≡ reference }
 {
     if numbers.contains(&reference.number()) {
-        reference.doubled_by(double, room)
+        reference.doubled_by(double)
     } else {
-        Reference::new(picture_of(reference, room))
+        reference.bare()
     }
-}
-
-/// The picture of a reference; half samples that it keeps leave their room.
-fn picture_of(reference: Reference, room: &mut Option<Halves>) -> Picture
-    ensures { result ≡ reference }
-{
-    let (picture, halves) = reference.parted();
-    if halves.is_some() {
-        *room = halves;
-    }
-    picture
-}
-
-/// Takes the picture at this place out of the list; half samples that it keeps leave their room.
-fn take_out(list: &mut Bounded<Reference, MOST_REFERENCES>, place: usize, room: &mut Option<Halves>)
-    requires { place < length list.old }
-    ensures { list.new ≡ remove list.old place }
-{
-    let reference = list.remove(place);
-    picture_of(reference, room);
 }
 
 /// Takes the pictures of this number out of the list.
-fn leave(list: &mut Bounded<Reference, MOST_REFERENCES>, number: u32, room: &mut Option<Halves>)
+fn leave(list: &mut Bounded<Reference, MOST_REFERENCES>, number: u32)
     ensures { list.new ≡ without number list.old }
 {
     let mut place = 0;
     while place < list.len() {
         if list.at(place).number() == number {
-            take_out(list, place, room);
+            list.remove(place);
         } else {
             place += 1;
         }
@@ -216,17 +186,13 @@ fn leave(list: &mut Bounded<Reference, MOST_REFERENCES>, number: u32, room: &mut
 
 /// Appends a picture, in place of the oldest where eight are listed.
 #[tactic(auto, using(crate::proofs::Listed::few_append))]
-fn append_last(
-    list: &mut Bounded<Reference, MOST_REFERENCES>,
-    picture: Picture,
-    room: &mut Option<Halves>,
-)
+fn append_last(list: &mut Bounded<Reference, MOST_REFERENCES>, picture: Picture)
     requires { length list.old ≤ MOST_REFERENCES }
     ensures at_most_8_references { length list.new ≤ MOST_REFERENCES }
     ensures longer { list.new ≡ append list.old picture }
 {
     if list.len() == MOST_REFERENCES {
-        take_out(list, 0, room);
+        list.remove(0);
     }
     list.push(Reference::new(picture));
 }

@@ -1,12 +1,11 @@
-ghost use Rattle.std.specs.Prelude.{◌≡◌, ◌≤◌, IfOk};
+ghost use Rattle.std.specs.Prelude.{◌≡◌, IfOk};
 ghost use Rattle.std.specs.Option.{ForSome, option_copied};
-ghost use Rattle.dirac_refs.specs.Halves.{AreHalves, CanBeDoubled, DoublesPictures, IsDoublable, up_of};
+ghost use Rattle.dirac_refs.specs.Halves.{AreHalves, CanBeDoubled, DoublesPictures, IsDoublable};
 
-use dirac_common::{NoMemory, Picture, Plane, RowGate};
-use dirac_upconvert::{UpPlane, upconvert_by, upconvert_in};
+use dirac_common::{NoMemory, Picture, Plane};
+use dirac_upconvert::{UpPlane, upconvert};
 use std::alloc::Global;
-use std::marker::{Model, Sync};
-use std::thread::Threads;
+use std::marker::Model;
 
 /// The most samples of a plane whose half samples are kept: those of 2,048 by 1,088. Half samples take twice the room
 /// of their plane, so those of larger pictures are made plane by plane, when they are needed.
@@ -39,77 +38,23 @@ impl Model for Reference {
     ghost invariant = { λ r. ForSome r.halves (AreHalves r.picture) };
 }
 
-/// The planes Y, U and V of half samples, where there are such.
-fn planes_of(halves: Option<Halves>) -> (Option<UpPlane>, Option<UpPlane>, Option<UpPlane>) {
-    match halves {
-        None => (None, None, None),
-        Some(Halves { y, u, v }) => (Some(y), Some(u), Some(v)),
-    }
-}
-
-/// A plane with its half samples, in the room of another one, where that one's plane has the same width and height.
-fn doubled(alloc: Global, plane: &Plane, other: Option<UpPlane>) -> Result<UpPlane, NoMemory>
+/// A plane with its half samples.
+fn doubled(alloc: Global, plane: &Plane) -> Result<UpPlane, NoMemory>
     requires { IsDoublable plane.now }
-    ensures { IfOk result (λ u. u ≡ up_of plane.now) }
+    ensures { IfOk result (λ u. u ≡ Rattle.dirac_refs.specs.Halves.up_of plane.now) }
 {
-    upconvert_in(alloc, plane, other)
+    upconvert(alloc, plane)
 }
 
-/// All planes of a picture with their half samples, made one after another, each in the room of another picture's,
-/// where that one's plane has the same width and height.
-pub(crate) fn halves_of(
-    alloc: Global,
-    picture: &Picture,
-    others: Option<Halves>,
-) -> Result<Halves, NoMemory>
+/// All planes of a picture with their half samples, made one after another.
+pub(crate) fn halves_of(alloc: Global, picture: &Picture) -> Result<Halves, NoMemory>
     requires { CanBeDoubled picture.now }
     ensures { IfOk result (AreHalves picture.now) }
 {
-    let (y, u, v) = planes_of(others);
     Ok(Halves {
-        y: doubled(alloc, &picture.y, y)?,
-        u: doubled(alloc, &picture.u, u)?,
-        v: doubled(alloc, &picture.v, v)?,
-    })
-}
-
-/// A plane with its half samples, made by so many workers, in the room of another one, where that one's plane has the
-/// same width and height.
-fn doubled_by_workers<R: Threads + Sync, G: RowGate>(
-    rt: &R,
-    alloc: Global,
-    plane: &Plane,
-    other: Option<UpPlane>,
-    workers: u32,
-    gate: &G,
-) -> Result<UpPlane, NoMemory>
-    requires plane { IsDoublable plane.now }
-    requires workers { 1 ≤ workers }
-    ensures { IfOk result (λ u. u ≡ up_of plane.now) }
-{
-    upconvert_by(rt, alloc, plane, other, workers, gate)
-}
-
-/// All planes of a picture with their half samples, made one after another, each by so many workers, and in the room of
-/// another picture's, where that one's plane has the same width and height. A worker goes through the gate before its
-/// share of a plane.
-pub fn halves_by_workers<R: Threads + Sync, G: RowGate>(
-    rt: &R,
-    alloc: Global,
-    picture: &Picture,
-    others: Option<Halves>,
-    workers: u32,
-    gate: &G,
-) -> Result<Halves, NoMemory>
-    requires picture { CanBeDoubled picture.now }
-    requires workers { 1 ≤ workers }
-    ensures { IfOk result (AreHalves picture.now) }
-{
-    let (y, u, v) = planes_of(others);
-    Ok(Halves {
-        y: doubled_by_workers(rt, alloc, &picture.y, y, workers, gate)?,
-        u: doubled_by_workers(rt, alloc, &picture.u, u, workers, gate)?,
-        v: doubled_by_workers(rt, alloc, &picture.v, v, workers, gate)?,
+        y: doubled(alloc, &picture.y)?,
+        u: doubled(alloc, &picture.u)?,
+        v: doubled(alloc, &picture.v)?,
     })
 }
 
@@ -150,19 +95,17 @@ impl Reference {
         self.halves.as_ref()
     }
 
-    /// The picture, and its half samples, if they are kept.
-    pub(crate) fn parted(self) -> (Picture, Option<Halves>)
-        ensures { result.0 ≡ self }
+    /// The reference without half samples.
+    pub(crate) fn bare(self) -> Reference
+        ensures { result ≡ self }
     {
-        (self.picture, self.halves)
+        Reference::new(self.picture)
     }
 
-    /// The reference with its half samples, where they take little room and memory is there; `double` makes them, and
-    /// may take the room that others left.
-    pub(crate) fn doubled_by<F: Fn(&Picture, Option<Halves>) -> Result<Halves, NoMemory>>(
+    /// The reference with its half samples, where they take little room and memory is there; `double` makes them.
+    pub(crate) fn doubled_by<F: Fn(&Picture) -> Result<Halves, NoMemory>>(
         self,
         double: &F,
-        room: &mut Option<Halves>,
     ) -> Reference
         requires doubles { DoublesPictures (F.pre double.now) (F.post double.now) }
         requires can_be_doubled { CanBeDoubled self }
@@ -171,7 +114,7 @@ impl Reference {
         if self.halves.is_some() || !is_small(&self.picture.y) {
             return self;
         }
-        match double(&self.picture, room.take()) {
+        match double(&self.picture) {
             Err(NoMemory) => self,
             Ok(halves) => Reference {
                 picture: self.picture,

@@ -5,8 +5,7 @@
 //! workers nine threads are started for a picture. A small picture isn't read by a map, and has two workers at most:
 //! two threads are started for it where it is an inter picture, one where it is an intra picture, whose planes are the
 //! rows of one map. Where `dirac_pardec` decodes an inter picture, each of its references whose half samples aren't
-//! kept yet has its planes doubled before, one after another, by workers that share the rows of each: with four workers
-//! nine threads more, three for a small picture.
+//! kept yet has a map of three rows before: two threads more, one for a small picture.
 ghost use Rattle.std.specs.Prelude.{◌≡◌, ◌≤◌};
 ghost use Rattle.dirac_slices.specs.Small.{is_small_picture, shared_by};
 

@@ -6,4 +6,3 @@ pub mod Mixing
 pub mod PartRows
 pub mod Phased
 pub mod SampleRows
-pub mod Shares

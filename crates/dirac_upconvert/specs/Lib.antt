@@ -5,4 +5,3 @@ pub mod Places
 pub mod Positions
 pub mod Rests
 pub mod SubSamples
-pub mod UpRows

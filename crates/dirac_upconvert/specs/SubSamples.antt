@@ -5,7 +5,7 @@ use Rattle.std.specs.Int.{int_shr}
 use Rattle.std.specs.List.{All}
 use Rattle.dirac_common.specs.declared.limits.TheConstants.{LARGEST_SIDE}
 use Rattle.dirac_common.specs.Table.{Table, clamped_at}
-use Rattle.dirac_upconvert.specs.HalfSamples.{IsSample, half}
+use Rattle.dirac_upconvert.specs.HalfSamples.{IsSample}
 
 -- an upconverted plane: the plane's sizes, and the table of its samples and half samples
 pub record Up : Type 0 where
@@ -13,7 +13,7 @@ pub record Up : Type 0 where
   pub height : ℕ
   pub table : Table
 
--- the table of an upconverted plane of these sizes: samples of eight bits, with one half sample between any two
+-- its table has one half sample between any two samples
 pub record IsUp (width height : ℕ) (table : Table) : Type 0 where
   pub some_across : 1 ≤ width
   pub most_across : width ≤ LARGEST_SIDE
@@ -22,10 +22,6 @@ pub record IsUp (width height : ℕ) (table : Table) : Type 0 where
   pub across : table.width ≡ 2 * width - 1
   pub down : table.height ≡ 2 * height - 1
   pub samples : All IsSample table.values
-
--- a plane with its half samples
-abbrev pub up_of : Table → Up
-up_of t = record { width = t.width; height = t.height; table = half t }
 
 -- the place of the table at or before a position; each place has 2 ^ bits positions
 abbrev pub place_at : ℤ → ℕ → ℤ

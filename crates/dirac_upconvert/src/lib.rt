@@ -10,6 +10,5 @@ mod phases;
 mod plane;
 mod rows;
 mod shared;
-mod up_rows;
 
-pub use plane::{UpPlane, upconvert, upconvert_by, upconvert_in};
+pub use plane::{UpPlane, upconvert};

@@ -84,13 +84,6 @@ impl Phases {
         }
     }
 
-    /// The rows, one behind another.
-    pub fn into_rows(self) -> Vec<i8>
-        ensures { length result.items ≡ self.height * (self.width + 1) }
-    {
-        self.samples
-    }
-
     /// The number of columns.
     pub fn width(&self) -> u32
         ensures value { result ≡ self.now.width }

@@ -1,21 +1,20 @@
 ghost use Rattle.std.specs.Prelude.{◌≡◌, ℕ, ℤ, pos, ◌+◌, ◌-◌, ◌*◌, ◌/◌, ◌%◌, ◌^◌, ◌<◌, ◌≤◌, ◌+ℤ◌, ◌*ℤ◌, length};
-ghost use Rattle.std.specs.Prelude.{slice_index_or, unsigned_abs, IfOk, IfSome};
+ghost use Rattle.std.specs.Prelude.{slice_index_or, unsigned_abs, IfOk};
 ghost use Rattle.std.specs.List.{All};
-ghost use Rattle.dirac_common.specs.Table.{clamped_at};
-ghost use Rattle.dirac_upconvert.specs.HalfSamples.{IsSample};
-ghost use Rattle.dirac_upconvert.specs.Phases.{AreLines};
+ghost use Rattle.dirac_common.specs.Table.{clamped_at, table_at};
+ghost use Rattle.dirac_upconvert.specs.HalfSamples.{IsSample, half, half_at, half_behind};
+ghost use Rattle.dirac_upconvert.specs.Phases.{AreLines, phase_at, place_in_row};
 ghost use Rattle.dirac_upconvert.specs.Positions.{AreSamplesByFour, IsPositionNear, sample_from};
-ghost use Rattle.dirac_upconvert.specs.SubSamples.{IsUp, Up, place_at, rest_at, sub_sample, up_of};
-ghost use Rattle.dirac_upconvert.specs.UpRows.{AreUpRows};
+ghost use Rattle.dirac_upconvert.specs.SubSamples.{IsUp, Up, place_at, rest_at, sub_sample};
 
+use crate::half_sample::Around;
+use crate::lines::{double_line, half_of_rows};
 use crate::parts::{part, place, rest, twice, whole_sample};
 use crate::phases::Phases;
 use crate::rows::{Position, Rests, lower, put, row_parts, rows_of_parts};
-use crate::up_rows::{double_rows, rows_into, rows_into_by};
-use dirac_common::{LARGEST_SIDE, NoMemory, Plane, RowGate};
+use dirac_common::{LARGEST_SIDE, NoMemory, Plane};
 use std::alloc::Global;
-use std::marker::{Model, Sync};
-use std::thread::Threads;
+use std::marker::Model;
 
 /// A reference plane with its half samples, and the size that it had without them.
 #[derive(Debug, Drop)]
@@ -35,23 +34,80 @@ impl Model for UpPlane {
     ghost invariant = { λ u. IsUp u.width u.height u.table };
 }
 
-/// The upconverted plane whose rows these are.
-fn from_rows(plane: &Plane, samples: Vec<i8>) -> UpPlane
-    requires across { plane.now.width ≤ LARGEST_SIDE }
-    requires down { plane.now.height ≤ LARGEST_SIDE }
+/// Lends row `y` of a plane of samples.
+#[inline(always)]
+fn row_of_samples(plane: &Plane, y: u32) -> &[i16]
+    requires inside { y < plane.now.height }
     requires samples { All IsSample plane.now.values }
-    requires rows { AreUpRows plane.now samples.items }
-    ensures value { result ≡ up_of plane.now }
-    ensures at_least_1 { (1 ≤ plane.now.width) × (1 ≤ plane.now.height) }
+    ensures value { (x : ℕ) → x < plane.now.width → slice_index_or result.now x (pos 0) ≡ table_at plane.now x y }
+    ensures len { length result.now ≡ plane.now.width }
+    ensures samples { All IsSample result.now }
 {
-    let width = plane.width();
-    let height = plane.height();
-    let table = Phases::of_rows(width, height, samples);
-    UpPlane {
-        width,
-        height,
-        table,
+    plane.row(y)
+}
+
+/// The half samples between row `y` and the next; rows beyond the plane are its last ones.
+fn half_row(plane: &Plane, y: u32, line: &mut [i16])
+    requires inside { y < plane.now.height }
+    requires at_most_4096 { plane.now.height ≤ LARGEST_SIDE }
+    requires len { length line.old ≡ plane.now.width }
+    requires samples { All IsSample plane.now.values }
+    ensures value { (x : ℕ) → x < plane.now.width → slice_index_or line.new x (pos 0)
+        ≡ half_behind (λ j. table_at plane.now x j) (plane.now.height - 1) y }
+    ensures samples { All IsSample line.new }
+{
+    let last = plane.height() - 1;
+    let rows = Around {
+        a3: row_of_samples(plane, y.saturating_sub(3)),
+        a2: row_of_samples(plane, y.saturating_sub(2)),
+        a1: row_of_samples(plane, y.saturating_sub(1)),
+        a0: row_of_samples(plane, y),
+        b0: row_of_samples(plane, (y + 1).min(last)),
+        b1: row_of_samples(plane, (y + 2).min(last)),
+        b2: row_of_samples(plane, (y + 3).min(last)),
+        b3: row_of_samples(plane, (y + 4).min(last)),
+    };
+    half_of_rows(rows, line);
+}
+
+/// Row `y` of the upconverted plane; `line` is room for one row of half samples.
+fn double_row(plane: &Plane, y: u32, line: &mut [i16], out: &mut [i8])
+    requires inside { y + 1 < 2 * plane.now.height }
+    requires at_least_1 { 1 ≤ plane.now.width }
+    requires at_most_4096 { plane.now.height ≤ LARGEST_SIDE }
+    requires line { length line.old ≡ plane.now.width }
+    requires out { length out.old ≡ 2 * plane.now.width }
+    requires samples { All IsSample plane.now.values }
+    ensures { (x : ℕ) → x + 1 < length out.old → slice_index_or out.new (place_in_row (length out.old) x) (pos 0)
+        ≡ half_at plane.now x y }
+{
+    if y % 2 == 0 {
+        double_line(row_of_samples(plane, y / 2), out);
+    } else {
+        half_row(plane, y / 2, line);
+        double_line(line, out);
     }
+}
+
+/// All rows of the upconverted plane, one behind another.
+fn double_rows(alloc: Global, plane: &Plane) -> Result<Vec<i8>, NoMemory>
+    requires at_least_1 { 1 ≤ plane.now.width }
+    requires at_most_4096 { plane.now.height ≤ LARGEST_SIDE }
+    requires samples { All IsSample plane.now.values }
+    ensures len { IfOk result (λ s. length s.items ≡ (2 * plane.now.height - 1) * (2 * plane.now.width)) }
+    ensures value { IfOk result (λ s. (x y : ℕ) → x + 1 < 2 * plane.now.width → y + 1 < 2 * plane.now.height
+        → phase_at plane.now.width s.items x y ≡ half_at plane.now x y) }
+{
+    let places = 2 * plane.width() as usize;
+    let rows = 2 * plane.height() - 1;
+    let mut line = vec![in alloc; 0i16; plane.width() as usize]?;
+    let mut row = vec![in alloc; 0i8; places]?;
+    let mut samples = Vec::with_capacity(alloc, rows as usize * places)?;
+    for y in 0..rows {
+        double_row(plane, y, line.as_mut_slice(), row.as_mut_slice());
+        samples.extend_from_slice(row.as_slice())?;
+    }
+    Ok(samples)
 }
 
 /// The plane with its half samples, first between its rows and then between the columns of that result
@@ -60,80 +116,22 @@ pub fn upconvert(alloc: Global, plane: &Plane) -> Result<UpPlane, NoMemory>
     requires across { plane.now.width ≤ LARGEST_SIDE }
     requires down { plane.now.height ≤ LARGEST_SIDE }
     requires samples { All IsSample plane.now.values }
-    ensures value { IfOk result (λ u. u ≡ up_of plane.now) }
+    ensures value { IfOk result (λ u. u ≡ record {
+      width = plane.now.width;
+      height = plane.now.height;
+      table = half plane.now;
+    }) }
     ensures whole_positions { IfOk result (λ u. (x y : ℤ) → sub_sample u 0 x y ≡ clamped_at plane.now x y) }
 {
+    let width = plane.width();
+    let height = plane.height();
     let samples = double_rows(alloc, plane)?;
-    Ok(from_rows(plane, samples))
-}
-
-/// The room of another upconverted plane, where that one's plane has the same width and height.
-fn room_of(plane: &Plane, other: Option<UpPlane>) -> Option<Vec<i8>>
-    ensures { IfSome result (λ room. length room.items ≡ (2 * plane.now.height - 1) * (2 * plane.now.width)) }
-{
-    let up = other?;
-    if up.width == plane.width() && up.height == plane.height() {
-        return Some(up.table.into_rows());
-    }
-    None
-}
-
-/// Room for the rows of an upconverted plane, filled with zeros.
-fn new_room(alloc: Global, plane: &Plane) -> Result<Vec<i8>, NoMemory>
-    requires across { plane.now.width ≤ LARGEST_SIDE }
-    requires down { plane.now.height ≤ LARGEST_SIDE }
-    ensures { IfOk result (λ room. length room.items ≡ (2 * plane.now.height - 1) * (2 * plane.now.width)) }
-{
-    let places = 2 * plane.width() as usize;
-    let rows = 2 * plane.height() as usize - 1;
-    Ok(vec![in alloc; 0i8; rows * places]?)
-}
-
-/// The plane with its half samples, as `upconvert`, in the room of another one, where that one's plane has the same
-/// width and height.
-pub fn upconvert_in(
-    alloc: Global,
-    plane: &Plane,
-    other: Option<UpPlane>,
-) -> Result<UpPlane, NoMemory>
-    requires across { plane.now.width ≤ LARGEST_SIDE }
-    requires down { plane.now.height ≤ LARGEST_SIDE }
-    requires samples { All IsSample plane.now.values }
-    ensures { IfOk result (λ u. u ≡ up_of plane.now) }
-{
-    let samples = match room_of(plane, other) {
-        None => double_rows(alloc, plane)?,
-        Some(room) => rows_into(plane, room),
-    };
-    Ok(from_rows(plane, samples))
-}
-
-/// The plane with its half samples, as `upconvert_in`, its rows made by so many workers; each goes through the gate
-/// before its share of them. A plane of a single row is doubled by one thread without the gate, as it has one share: a
-/// gate that held that would see no other come. So is any plane where one worker is asked for.
-pub fn upconvert_by<R: Threads + Sync, G: RowGate>(
-    rt: &R,
-    alloc: Global,
-    plane: &Plane,
-    other: Option<UpPlane>,
-    workers: u32,
-    gate: &G,
-) -> Result<UpPlane, NoMemory>
-    requires across { plane.now.width ≤ LARGEST_SIDE }
-    requires down { plane.now.height ≤ LARGEST_SIDE }
-    requires samples { All IsSample plane.now.values }
-    requires workers { 1 ≤ workers }
-    ensures { IfOk result (λ u. u ≡ up_of plane.now) }
-{
-    if workers == 1 || plane.height() == 1 {
-        return upconvert_in(alloc, plane, other);
-    }
-    let room = match room_of(plane, other) {
-        None => new_room(alloc, plane)?,
-        Some(room) => room,
-    };
-    let samples = rows_into_by(rt, plane, room, workers, gate);
-    Ok(from_rows(plane, samples))
+    let table = Phases::of_rows(width, height, samples);
+    Ok(UpPlane {
+        width,
+        height,
+        table,
+    })
 }
 
 /// Writes the samples from a position on, two columns and two rows apart: four rows of eight.

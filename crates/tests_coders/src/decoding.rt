@@ -45,21 +45,21 @@ fn shares<R: Abort + Threads + Sync>(
     Ok(())
 }
 
-// The first picture has its residual planes as rows; the second, without a residual, has five calls: three for the half
-// samples of its reference, one a plane, one for what its slices are made of, and one for its slices.
+// The first picture has its residual planes as rows; the second, without a residual, has three calls: the half samples
+// of its reference, what its slices are made of, and its slices.
 #[test]
 fn two_workers_share_the_rows_of_each_call(rt: HostRuntime) -> Result<(), NoMemory> {
     let alloc = rt.alloc();
-    shares(&rt, alloc, &STREAM, &[0x80; 192], 2, 6)
+    shares(&rt, alloc, &STREAM, &[0x80; 192], 2, 4)
 }
 
 // Each of two pictures that aren't small has three calls: the orientations of its subbands, what its slices are made
-// of, and its slices. The second has three more between them: the half samples of its reference, a plane a call.
+// of, and its slices. The second has one more between them: the half samples of its reference.
 #[test]
 fn two_workers_share_the_subbands(rt: HostRuntime) -> Result<(), NoMemory> {
     let alloc = rt.alloc();
     let made = encoded(&rt, alloc, 320, 208, 1, &OpenGate)?;
-    shares(&rt, alloc, made.stream.taken(), made.shown.taken(), 2, 9)
+    shares(&rt, alloc, made.stream.taken(), made.shown.taken(), 2, 7)
 }
 
 // Two intra pictures have one call: each is decoded whole by one of the workers.
@@ -72,13 +72,13 @@ fn two_workers_decode_a_picture_each(rt: HostRuntime) -> Result<(), NoMemory> {
     shares(&rt, alloc, made.stream.taken(), made.shown.taken(), 2, 1)
 }
 
-// An intra picture has three calls, the picture behind it that refers to it six, three of them for the half samples of
-// the first. The two between them, which refer to both, have four together: three for the half samples of the second
-// one, since those of the first are kept, and then each is decoded whole by one of the workers.
+// An intra picture has three calls, the picture behind it that refers to it four, with the half samples of the first.
+// The two between them, which refer to both, have two together: the half samples of the second one, since those of the
+// first are kept, and then each is decoded whole by one of the workers.
 #[test]
 fn two_workers_decode_what_refers_to_the_same_pictures(rt: HostRuntime) -> Result<(), NoMemory> {
     let alloc = rt.alloc();
     let settings = sized(320, 208);
     let made = encoded_many(&rt, alloc, &settings, 4, &OpenGate)?;
-    shares(&rt, alloc, made.stream.taken(), made.shown.taken(), 4, 13)
+    shares(&rt, alloc, made.stream.taken(), made.shown.taken(), 4, 9)
 }

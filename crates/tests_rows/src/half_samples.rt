@@ -1,12 +1,10 @@
 ghost use Rattle.std.specs.Prelude.{All, IsTrue};
 ghost use Rattle.dirac_upconvert.specs.HalfSamples.{IsSample};
 
-use dirac_common::{NoMemory, OpenGate, Plane};
-use dirac_upconvert::{UpPlane, upconvert, upconvert_by, upconvert_in};
+use dirac_common::{NoMemory, Plane};
+use dirac_upconvert::{UpPlane, upconvert};
 use std::alloc::Global;
-use std::marker::Sync;
 use std::process::Abort;
-use std::thread::Threads;
 
 /// Whether all are samples of 8 bits, less 128.
 fn are_samples(values: &[i16]) -> bool
@@ -127,18 +125,11 @@ fn lines_of_one_row_and_of_three(rt: HostRuntime) -> Result<(), NoMemory> {
     // the even columns, then the odd one; the last place is no sample
     assert!(rt; lines.len() == 4);
     assert!(rt; lines[0] == 0 && lines[1] == 32 && lines[2] == 16);
-    let up = upconverted(&rt, alloc, &three_by_two(&rt, alloc)?)?;
-    are_lines_of_three(&rt, &up);
-    Ok(())
-}
-
-/// A plane of three columns and two rows.
-fn three_by_two<R: Abort>(rt: &R, alloc: Global) -> Result<Plane, NoMemory> {
-    plane(rt, alloc, 3, 2, &[10, -20, 30, 40, -50, 60])
-}
-
-/// Compares the lines of that plane's half samples.
-fn are_lines_of_three<R: Abort>(rt: &R, up: &UpPlane) {
+    let up = upconverted(
+        &rt,
+        alloc,
+        &plane(&rt, alloc, 3, 2, &[10, -20, 30, 40, -50, 60])?,
+    )?;
     let lines = up.lines();
     assert!(rt; lines.len() == 18);
     // of each row, and of the one between them, the even columns and then the odd ones; 0 stands for a last place
@@ -148,50 +139,5 @@ fn are_lines_of_three<R: Abort>(rt: &R, up: &UpPlane) {
     for k in 0..18 {
         assert!(rt; k == 5 || k == 11 || k == 17 || lines[k] == wanted[k]);
     }
-}
-
-/// Compares the lines of that plane's half samples, made where those of a grey plane of this size are handed in for
-/// their room.
-fn made_in_room_of<R: Abort>(
-    rt: &R,
-    alloc: Global,
-    width: u32,
-    height: u32,
-) -> Result<(), NoMemory> {
-    assert!(rt; 1 <= width && width <= 8 && 1 <= height && height <= 8);
-    let other = upconverted(rt, alloc, &Plane::try_new(alloc, width, height, 99)?)?;
-    let plane = three_by_two(rt, alloc)?;
-    assert!(rt; plane.width() <= 4096 && plane.height() <= 4096);
-    assert!(rt; are_samples(plane.values()));
-    are_lines_of_three(rt, &upconvert_in(alloc, &plane, Some(other))?);
     Ok(())
-}
-
-#[test]
-fn lines_in_the_room_of_others(rt: HostRuntime) -> Result<(), NoMemory> {
-    let alloc = rt.alloc();
-    made_in_room_of(&rt, alloc, 3, 2)?;
-    made_in_room_of(&rt, alloc, 2, 3)?;
-    made_in_room_of(&rt, alloc, 8, 8)
-}
-
-/// Compares the lines of that plane's half samples, made by so many workers.
-fn made_by<R: Abort + Threads + Sync>(rt: &R, alloc: Global, workers: u32) -> Result<(), NoMemory> {
-    assert!(rt; 1 <= workers && workers <= 64);
-    let plane = three_by_two(rt, alloc)?;
-    assert!(rt; plane.width() <= 4096 && plane.height() <= 4096);
-    assert!(rt; are_samples(plane.values()));
-    let up = upconvert_by(rt, alloc, &plane, None, workers, &OpenGate)?;
-    are_lines_of_three(rt, &up);
-    Ok(())
-}
-
-#[test]
-fn lines_by_workers(rt: HostRuntime) -> Result<(), NoMemory> {
-    let alloc = rt.alloc();
-    // three rows: one share, two of two rows and one, and three of a row each
-    made_by(&rt, alloc, 1)?;
-    made_by(&rt, alloc, 2)?;
-    made_by(&rt, alloc, 3)?;
-    made_by(&rt, alloc, 64)
 }

@@ -4,8 +4,7 @@ use Rattle.std.proofs.Math.Nat.{suc-mul}
 use Rattle.dirac_upconvert.specs.HalfSamples.{half_at}
 use Rattle.dirac_upconvert.specs.Phases.{phase_at, place_in_row}
 use Rattle.dirac_upconvert.proofs.Phased.{phases_more}
-use Rattle.dirac_upconvert.proofs.Shares.{all_rows}
-use Rattle.dirac_upconvert.proofs.up_rows.double_rows.Goals as goal
+use Rattle.dirac_upconvert.proofs.plane.double_rows.Goals as goal
 
 pub loop-y-init : goal.loop-y-init
 loop-y-init c = (
@@ -33,8 +32,10 @@ loop-y-preserved c =
           (λ i b. ap (λ n. get_or row (place_in_row n i) (pos 0)) (sym held) ∙ c.double_row.ensures i (omega (arith, b, held))) x j a l,
     )
 
-pub returns : goal.returns
-returns c =
+pub returns-clause-len : goal.returns-clause-len
+returns-clause-len c =
     let all : c.loop-y.y ≡ 2 * c.args.plane.now.height - 1 = omega (arith, c.loop-y-test.false, c.loop-y.auto.y-end, c.height.ensures.value) in
-    all_rows c.args.plane.now c.loop-y.samples.items (c.loop-y.invariant.2 ∙ ap (λ n. n * (2 * c.args.plane.now.width)) all)
-    (λ x y a l. c.loop-y.invariant.3 x y a (omega (arith, l, all)))
+    c.loop-y.invariant.2 ∙ ap (λ n. n * (2 * c.args.plane.now.width)) all
+
+pub returns-clause-value : goal.returns-clause-value
+returns-clause-value c x y a l = c.loop-y.invariant.3 x y a (omega (arith, l, c.loop-y-test.false, c.height.ensures.value))

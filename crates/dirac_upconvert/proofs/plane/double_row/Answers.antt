@@ -1,6 +1,6 @@
 use Rattle.std.proofs.Common.{arith, ◌∙◌}
 use Rattle.dirac_upconvert.proofs.Halves.{even_row, odd_row}
-use Rattle.dirac_upconvert.proofs.up_rows.double_row.Goals as goal
+use Rattle.dirac_upconvert.proofs.plane.double_row.Goals as goal
 
 pub returns-then-y-eq0 : goal.returns-then-y-eq0
 returns-then-y-eq0 c x l =

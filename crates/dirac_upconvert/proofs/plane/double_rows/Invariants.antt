@@ -1,7 +1,7 @@
 use Rattle.std.proofs.Common.{◌≡◌, ℕ, ◌+◌, ◌*◌, ◌<◌, length, vec_len}
 use Rattle.dirac_upconvert.specs.HalfSamples.{half_at}
 use Rattle.dirac_upconvert.specs.Phases.{phase_at}
-use Rattle.dirac_upconvert.proofs.up_rows.double_rows.Given as goal
+use Rattle.dirac_upconvert.proofs.plane.double_rows.Given as goal
 
 abbrev pub invariant-loop-y : goal.invariant-loop-y
 invariant-loop-y l =

@@ -1,7 +1,7 @@
 use Rattle.std.proofs.Common.{arith}
 use Rattle.dirac_upconvert.proofs.Doubling.{between_sample}
 use Rattle.dirac_upconvert.proofs.Halves.{all_samples}
-use Rattle.dirac_upconvert.proofs.up_rows.half_row.Goals as goal
+use Rattle.dirac_upconvert.proofs.plane.half_row.Goals as goal
 
 pub returns-clause-samples : goal.returns-clause-samples
 returns-clause-samples c =
