@@ -1,9 +1,9 @@
 use std::marker::Sync;
 
-/// What a worker passes before it works on a row of a map of rows; what a row stands for is told by the call that maps.
+/// What a worker passes before a row of a map of rows, or a part of all planes; the call that has it tells which.
 /// It answers nothing and changes no result: a test may hold a worker there until another one comes.
 pub trait RowGate: Sync {
-    /// Called once for each row of a map of rows, before that row is worked on. Rows count from 0.
+    /// Called once for each row of a map of rows, or for each part, before it is worked on. Both count from 0.
     fn enter(&self, row: u32);
 }
 

@@ -76,42 +76,45 @@ impl DecodingRefs {
         self.refs.commit(retire, picture);
     }
 
-    /// Keeps half samples of the pictures that a coded picture refers to, and of no other; an intra picture changes
-    /// nothing.
-    pub fn keep_halves(&mut self, alloc: Global, header: &PictureHeader)
+    /// Keeps half samples of the pictures that a coded picture refers to by vectors of this precision, and of no other;
+    /// an intra picture changes nothing.
+    pub fn keep_halves(&mut self, alloc: Global, header: &PictureHeader, precision: u8)
         requires { All CanBeDoubled self.old }
         ensures { self.new ≡ self.old }
     {
-        self.refs.keep_halves(alloc, header.ref1, header.ref2);
+        self.refs
+            .keep_halves(alloc, header.ref1, header.ref2, precision);
     }
 
-    /// Keeps half samples of the pictures that a coded picture refers to, and of no other, where `double` makes those
-    /// that aren't kept yet; an intra picture changes nothing.
+    /// Keeps half samples of the pictures that a coded picture refers to by vectors of this precision, and of no other,
+    /// where `double` makes those that aren't kept for it yet; an intra picture changes nothing.
     pub fn keep_named_halves_by<F: Fn(&Picture) -> Result<Halves, NoMemory>>(
         &mut self,
         double: &F,
         header: &PictureHeader,
+        precision: u8,
     )
         requires doubles { DoublesPictures (F.pre double.now) (F.post double.now) }
         requires can_be_doubled { All CanBeDoubled self.old }
         ensures { self.new ≡ self.old }
     {
         self.refs
-            .keep_named_halves_by(double, header.ref1, header.ref2);
+            .keep_named_halves_by(double, header.ref1, header.ref2, precision);
     }
 
-    /// Keeps half samples of the pictures of these numbers, and of no other, where `double` makes those that aren't
-    /// kept yet.
+    /// Keeps half samples of the pictures of these numbers for vectors of this precision, and of no other, where
+    /// `double` makes those that aren't kept for it yet.
     pub fn keep_halves_by<F: Fn(&Picture) -> Result<Halves, NoMemory>>(
         &mut self,
         double: &F,
         numbers: &[u32],
+        precision: u8,
     )
         requires doubles { DoublesPictures (F.pre double.now) (F.post double.now) }
         requires can_be_doubled { All CanBeDoubled self.old }
         ensures { self.new ≡ self.old }
     {
-        self.refs.keep_halves_by(double, numbers);
+        self.refs.keep_halves_by(double, numbers, precision);
     }
 
     /// Keeps what was decoded ahead, the next one last, until the list changes, in place of what was kept before.

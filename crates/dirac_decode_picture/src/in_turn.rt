@@ -26,7 +26,7 @@ pub fn decode_picture(
     ensures { DecodesPayload payload.now code sequence.now refs.old result refs.new }
 {
     let coded = read_picture(alloc, payload, code, sequence, refs.list())?;
-    refs.keep_halves(alloc, &coded.header);
+    refs.keep_halves(alloc, &coded.header, coded.vector_precision());
     let decoded = rebuild_picture(alloc, &coded, sequence, refs.list())?;
     Ok(decoded)
 }

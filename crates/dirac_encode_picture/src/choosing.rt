@@ -48,7 +48,7 @@ fn prepare_searched<R: Threads + Sync, G: RowGate>(
     match named_reference(asked.refs, asked.planned.ref1) {
         None => unreachable!(),
         Some(first) => {
-            let lumas = Lumas::by_workers(rt, alloc, first, second, settings.workers)?;
+            let lumas = Lumas::by_workers(rt, alloc, first, second, settings)?;
             let references = lumas.lend(first, second);
             let blocks = choose_from(rt, alloc, asked.source, &references, settings, gate)?;
             let moving = Moving {

@@ -158,7 +158,7 @@ fn prepare_looked_up(
     match named_reference(asked.refs, asked.planned.ref1) {
         None => unreachable!(),
         Some(first) => {
-            let lumas = Lumas::of(alloc, first, second)?;
+            let lumas = Lumas::of(alloc, first, second, asked.settings)?;
             let references = lumas.lend(first, second);
             let moving = Moving {
                 references: &references,

@@ -114,7 +114,8 @@ fn keep_halves(alloc: Global, settings: &Settings, planned: &Planned, refs: &mut
     if settings.fields != 0 {
         return;
     }
-    refs.keep_halves(alloc, planned.ref1, planned.ref2);
+    let precision = settings.precision.min(3) as u8;
+    refs.keep_halves(alloc, planned.ref1, planned.ref2, precision);
 }
 
 /// Codes a planned picture by the call handed in.

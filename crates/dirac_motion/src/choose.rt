@@ -97,7 +97,7 @@ fn choose_for<R: Threads + Sync, G: RowGate>(
     match named_reference(refs, planned.ref1) {
         None => unreachable!(),
         Some(first) => {
-            let lumas = Lumas::by_workers(rt, alloc, first, second, settings.workers)?;
+            let lumas = Lumas::by_workers(rt, alloc, first, second, settings)?;
             let references = lumas.lend(first, second);
             choose_from(rt, alloc, source, &references, settings, gate)
         }

@@ -1,4 +1,4 @@
-ghost use Rattle.std.specs.Prelude.{◌≡◌, IfOk, Some};
+ghost use Rattle.std.specs.Prelude.{◌≡◌, ◌≤◌, IfOk, Some};
 ghost use Rattle.std.specs.Option.{ForSome, option_copied};
 ghost use Rattle.dirac_sequence_header.specs.declared.sequence.Sequence.{Sequence};
 ghost use Rattle.dirac_content.specs.Content.{IsPicture, up_of};
@@ -6,7 +6,8 @@ ghost use Rattle.dirac_motion.specs.Lent.{AreLent, AreLumas, HasLuma, first_of, 
 
 use dirac_common::NoMemory;
 use dirac_refs::Reference as Listed;
-use dirac_upconvert::{UpPlane, upconvert};
+use dirac_types::Settings;
+use dirac_upconvert::{UpPlane, upconvert_for};
 use std::alloc::Global;
 use std::marker::Sync;
 use std::thread::{Threads, join};
@@ -46,6 +47,13 @@ impl<'a> Luma<'a> {
     }
 }
 
+/// The precision of the vectors of these settings.
+fn precision_of(settings: &Settings) -> u8
+    ensures { settings.now.precision ≤ 3 → result ≡ settings.now.precision }
+{
+    settings.precision.min(3) as u8
+}
+
 /// The luma of one reference or two, with half samples.
 #[derive(Drop)]
 pub struct Lumas<'a> {
@@ -53,24 +61,24 @@ pub struct Lumas<'a> {
     pub second: Option<Luma<'a>>,
 }
 
-/// Lends the luma of a reference with half samples, while they are kept.
-fn kept_luma(listed: &Listed) -> Option<&UpPlane>
+/// Lends the luma of a reference with half samples, while they are kept for vectors of this precision.
+fn kept_luma(listed: &Listed, precision: u8) -> Option<&UpPlane>
     ensures { ForSome (option_copied result) (λ u. u ≡ up_of listed.now.y) }
 {
-    match listed.halves() {
+    match listed.halves(precision) {
         None => None,
         Some(halves) => Some(&halves.y),
     }
 }
 
-/// The luma of a reference with half samples, which are made where they aren't kept.
-fn luma_of<'a>(alloc: Global, listed: &'a Listed) -> Result<Luma<'a>, NoMemory>
+/// The luma of a reference with half samples, which are made where they aren't kept for vectors of this precision.
+fn luma_of<'a>(alloc: Global, listed: &'a Listed, precision: u8) -> Result<Luma<'a>, NoMemory>
     requires { HasLuma listed.now }
     ensures { IfOk result (λ l. luma_in l ≡ up_of listed.now.y) }
 {
-    match kept_luma(listed) {
+    match kept_luma(listed, precision) {
         None => {
-            let made = upconvert(alloc, &listed.picture().y)?;
+            let made = upconvert_for(alloc, &listed.picture().y, precision)?;
             Ok(Luma::Made(made))
         }
         Some(up) => Ok(Luma::Kept(up)),
@@ -83,6 +91,7 @@ fn lumas_side_by_side<'a, R: Threads + Sync>(
     alloc: Global,
     first: &'a Listed,
     second: &'a Listed,
+    precision: u8,
 ) -> Result<Lumas<'a>, NoMemory>
     requires first { HasLuma first.now }
     requires second { HasLuma second.now }
@@ -93,11 +102,11 @@ fn lumas_side_by_side<'a, R: Threads + Sync>(
         || -> Result<Luma, NoMemory>
             requires { HasLuma second.now }
             ensures { IfOk result (λ l. luma_in l ≡ up_of second.entry.now.y) }
-        { luma_of(alloc, second) },
+        { luma_of(alloc, second, precision) },
         || -> Result<Luma, NoMemory>
             requires { HasLuma first.now }
             ensures { IfOk result (λ l. luma_in l ≡ up_of first.entry.now.y) }
-        { luma_of(alloc, first) },
+        { luma_of(alloc, first, precision) },
     );
     let first = luma?;
     let second = other?;
@@ -108,24 +117,26 @@ fn lumas_side_by_side<'a, R: Threads + Sync>(
 }
 
 impl<'a> Lumas<'a> {
-    /// The luma of references: what they keep is lent, and the other is made.
+    /// The luma of references, for the vectors of these settings: what they keep is lent, and the other is made.
     pub fn of(
         alloc: Global,
         first: &'a Listed,
         second: Option<&'a Listed>,
+        settings: &Settings,
     ) -> Result<Lumas<'a>, NoMemory>
         requires first { HasLuma first.now }
         requires second { ForSome (option_copied second) HasLuma }
         ensures { IfOk result (λ l. AreLumas first.now (option_copied second.entry) l) }
     {
-        let luma = luma_of(alloc, first)?;
+        let precision = precision_of(settings);
+        let luma = luma_of(alloc, first, precision)?;
         match second {
             None => Ok(Lumas {
                 first: luma,
                 second: None,
             }),
             Some(second) => {
-                let other = luma_of(alloc, second)?;
+                let other = luma_of(alloc, second, precision)?;
                 Ok(Lumas {
                     first: luma,
                     second: Some(other),
@@ -134,25 +145,26 @@ impl<'a> Lumas<'a> {
         }
     }
 
-    /// The luma of references: what they keep is lent, and where the first keeps none, with two workers or more that of
-    /// both is made side by side.
+    /// The luma of references, for the vectors of these settings: what they keep is lent. Where the first keeps none,
+    /// that of both is made side by side with two workers or more; at precision 0, with no half sample to make, by one.
     pub fn by_workers<R: Threads + Sync>(
         rt: &R,
         alloc: Global,
         first: &'a Listed,
         second: Option<&'a Listed>,
-        workers: u32,
+        settings: &Settings,
     ) -> Result<Lumas<'a>, NoMemory>
         requires first { HasLuma first.now }
         requires second { ForSome (option_copied second) HasLuma }
         ensures { IfOk result (λ l. AreLumas first.now (option_copied second.entry) l) }
     {
-        if workers <= 1 || first.halves().is_some() {
-            return Lumas::of(alloc, first, second);
+        let precision = precision_of(settings);
+        if settings.workers <= 1 || precision == 0 || first.halves(precision).is_some() {
+            return Lumas::of(alloc, first, second, settings);
         }
         match second {
-            None => Lumas::of(alloc, first, None),
-            Some(other) => lumas_side_by_side(rt, alloc, first, other),
+            None => Lumas::of(alloc, first, None, settings),
+            Some(other) => lumas_side_by_side(rt, alloc, first, other, precision),
         }
     }
 

@@ -69,7 +69,8 @@ pub(crate) fn decode_by_rows<R: Threads + Sync, G: RowGate>(
 {
     let coded = read_by_rows(crew, alloc, asked, refs.list())?;
     let doublers = crew.for_picture_of(asked.sequence);
-    keep_named_halves(&doublers, alloc, &coded.header, refs);
+    let precision = coded.vector_precision();
+    keep_named_halves(&doublers, alloc, &coded.header, precision, refs);
     let (rt, workers, gate) = (crew.rt, crew.workers, crew.gate);
     let picture = rebuild_rows(
         rt,

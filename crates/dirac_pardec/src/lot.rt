@@ -189,7 +189,7 @@ impl Lot {
         }
         let units = self.units.replace(None)?;
         let Ok(decoded) = decode_run(crew, alloc, units.as_slice(), asked, refs) else {
-            keep_halves_by_rows(crew, alloc, &[], refs);
+            keep_halves_by_rows(crew, alloc, &[], 0, refs);
             return None;
         };
         self.units.set(Some(units));

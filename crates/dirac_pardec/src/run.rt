@@ -16,7 +16,7 @@ use crate::halves::keep_halves_by_rows;
 use dirac_bits::BitReader;
 use dirac_common::{END_OF_SEQUENCE, NoMemory, RowGate, is_reference, references};
 use dirac_decode_picture::{DecodedAhead, DecodedPicture, DecodingRefs};
-use dirac_header::read_header;
+use dirac_header::{read_header, read_prediction};
 use dirac_refs::RefBuffer;
 use dirac_rows::map_rows;
 use dirac_sequence_header::Sequence;
@@ -77,6 +77,23 @@ fn numbers_named(alloc: Global, units: &[InterUnit<'_>]) -> Result<Vec<u32>, NoM
         }
     }
     Ok(numbers)
+}
+
+/// The greatest precision of the vectors of these pictures, as their prediction parameters say; one whose header or
+/// parameters are refused counts as 0.
+fn precision_among(units: &[InterUnit<'_>], sequence: &Sequence) -> u8 {
+    let mut greatest = 0;
+    for unit in units {
+        let mut r = BitReader::new(unit.payload);
+        let Ok(_) = read_header(&mut r, unit.code) else {
+            continue;
+        };
+        let Ok(prediction) = read_prediction(&mut r, unit.code, sequence.chroma) else {
+            continue;
+        };
+        greatest = prediction.precision.max(greatest);
+    }
+    greatest
 }
 
 /// Decodes a picture before it is asked for; none where it is refused.
@@ -155,8 +172,9 @@ pub(crate) fn decode_run<R: Threads + Sync, G: RowGate>(
         return Ok(None);
     }
     let numbers = numbers_named(alloc, pictures.as_slice())?;
+    let precision = precision_among(pictures.as_slice(), asked.sequence);
     let doublers = crew.for_picture_of(asked.sequence);
-    keep_halves_by_rows(&doublers, alloc, numbers.as_slice(), refs);
+    keep_halves_by_rows(&doublers, alloc, numbers.as_slice(), precision, refs);
     let ahead = decode_units(
         crew,
         alloc,

@@ -1,4 +1,5 @@
-ghost use Rattle.std.specs.Prelude.{◌≡◌};
+ghost use Rattle.std.specs.Prelude.{◌≡◌, None};
+ghost use Rattle.std.specs.Option.{ForSome};
 ghost use Rattle.dirac_picture.specs.Bands.{bands_of};
 
 use crate::plane_bands::PlaneBands;
@@ -45,4 +46,17 @@ pub struct CodedPicture {
     pub motion: Option<CodedMotion>,
     /// What its planes are made of beside their prediction; an intra picture always has it.
     pub residual: Option<CodedResidual>,
+}
+
+impl CodedPicture {
+    /// The precision of its vectors: each counts in so many halvings of a luma sample. 0 where it has none.
+    pub fn vector_precision(&self) -> u8
+        ensures value { ForSome self.now.motion (λ m. result ≡ m.prediction.precision) }
+        ensures none { self.now.motion ≡ None → result ≡ 0 }
+    {
+        match &self.motion {
+            None => 0,
+            Some(motion) => motion.prediction.precision,
+        }
+    }
 }

@@ -18,7 +18,7 @@ use dirac_obmc::{Component, Motion, Predicted, predict_plane};
 use dirac_picture::CodedMotion;
 use dirac_refs::{Halves, RefBuffer, Reference};
 use dirac_sequence_header::Sequence;
-use dirac_upconvert::{UpPlane, upconvert};
+use dirac_upconvert::{UpPlane, upconvert_for};
 use std::alloc::Global;
 use std::marker::Model;
 
@@ -30,18 +30,19 @@ pub struct Moved<'a> {
     pub motion: &'a CodedMotion,
 }
 
-/// A plane of a reference with its half samples.
+/// A plane of a reference with its half samples, for vectors of this precision.
 pub fn up_plane(
     alloc: Global,
     sequence: &Sequence,
     picture: &Picture,
     component: Component,
+    precision: u8,
 ) -> Result<UpPlane, NoMemory>
     requires sequence { IsSequence sequence.now }
     requires picture { content.IsPicture sequence.now picture.now }
     ensures { IfOk result (λ u. u ≡ content.up_of (content.plane_of picture.now component)) }
 {
-    upconvert(alloc, plane_of(picture, component))
+    upconvert_for(alloc, plane_of(picture, component), precision)
 }
 
 /// What one plane of an inter picture is predicted from: its blocks, and planes of its references that are upconverted
@@ -105,11 +106,11 @@ pub fn predict_with(
     predict_plane(alloc, &motion)
 }
 
-/// Lends a plane of a reference with its half samples, while they are kept.
-fn kept_plane(reference: &Reference, component: Component) -> Option<&UpPlane>
+/// Lends a plane of a reference with its half samples, while they are kept for vectors of this precision.
+fn kept_plane(reference: &Reference, component: Component, precision: u8) -> Option<&UpPlane>
     ensures { ForSome (option_copied result) (λ u. u ≡ content.up_of (content.plane_of reference.now component)) }
 {
-    match reference.halves() {
+    match reference.halves(precision) {
         None => None,
         Some(halves) => Some(half_plane(halves, component)),
     }
@@ -162,20 +163,21 @@ impl<'a> ReferencePlane<'a> {
     }
 }
 
-/// A plane of a reference with its half samples, which are made where they aren't kept.
+/// A plane of a reference with its half samples, which are made where they aren't kept for vectors of this precision.
 pub fn up_of_reference<'a>(
     alloc: Global,
     sequence: &Sequence,
     reference: &'a Reference,
     component: Component,
+    precision: u8,
 ) -> Result<ReferencePlane<'a>, NoMemory>
     requires sequence { IsSequence sequence.now }
     requires reference { content.IsPicture sequence.now reference.now }
     ensures { IfOk result (λ p. p ≡ content.up_of (content.plane_of reference.now component)) }
 {
-    match kept_plane(reference, component) {
+    match kept_plane(reference, component, precision) {
         None => {
-            let made = up_plane(alloc, sequence, reference.picture(), component)?;
+            let made = up_plane(alloc, sequence, reference.picture(), component, precision)?;
             Ok(ReferencePlane {
                 doubled: Doubled::Made(made),
             })
@@ -204,11 +206,12 @@ pub fn predict_from(
     ensures len { IfOk result (λ t. length t.values ≡ content.width_of moved.now.sequence.now component
         * content.height_of moved.now.sequence.now component) }
 {
-    let first = up_of_reference(alloc, moved.sequence, first, component)?;
+    let precision = moved.motion.prediction.precision;
+    let first = up_of_reference(alloc, moved.sequence, first, component, precision)?;
     match second {
         None => predict_with(alloc, moved, first.plane(), None, component),
         Some(second) => {
-            let second = up_of_reference(alloc, moved.sequence, second, component)?;
+            let second = up_of_reference(alloc, moved.sequence, second, component, precision)?;
             predict_with(alloc, moved, first.plane(), Some(second.plane()), component)
         }
     }

@@ -109,11 +109,12 @@ fn inter_samples(
     ensures value { IfOk result (λ t. t ≡ inter_plane moved.now.sequence.now (Some first.now)
         (option_copied second.entry) moved.now.motion.now residual.now component) }
 {
-    let first = up_of_reference(alloc, moved.sequence, first, component)?;
+    let precision = moved.motion.prediction.precision;
+    let first = up_of_reference(alloc, moved.sequence, first, component, precision)?;
     match second {
         None => samples_with(alloc, moved, residual, first.plane(), None, component),
         Some(second) => {
-            let second = up_of_reference(alloc, moved.sequence, second, component)?;
+            let second = up_of_reference(alloc, moved.sequence, second, component, precision)?;
             let second = Some(second.plane());
             samples_with(alloc, moved, residual, first.plane(), second, component)
         }

@@ -76,26 +76,34 @@ impl RefBuffer {
         }
     }
 
-    /// Keeps the half samples of the pictures of these numbers, and of no other picture; without a first number nothing
-    /// changes. The list stays as it is.
-    pub fn keep_halves(&mut self, alloc: Global, first: Option<u32>, second: Option<u32>)
+    /// Keeps the half samples of the pictures of these numbers, for vectors of this precision, and of no other picture;
+    /// without a first number nothing changes. The list stays as it is.
+    pub fn keep_halves(
+        &mut self,
+        alloc: Global,
+        first: Option<u32>,
+        second: Option<u32>,
+        precision: u8,
+    )
         requires { All CanBeDoubled self.old }
         ensures { self.new ≡ self.old }
     {
         let double = |picture: &Picture| -> Result<Halves, NoMemory>
             requires { CanBeDoubled picture.now }
             ensures { IfOk result (AreHalves picture.now) }
-        { halves_of(alloc, picture) };
-        self.keep_named_halves_by(&double, first, second);
+        { halves_of(alloc, picture, precision) };
+        self.keep_named_halves_by(&double, first, second, precision);
     }
 
-    /// Keeps the half samples of the pictures of these numbers, and of no other picture; `double` makes those that
-    /// aren't kept yet. Without a first number nothing changes. The list stays as it is.
+    /// Keeps the half samples of the pictures of these numbers, for vectors of this precision, and of no other picture;
+    /// `double` makes those that aren't kept for it yet. Without a first number nothing changes. The list stays as it
+    /// is.
     pub fn keep_named_halves_by<F: Fn(&Picture) -> Result<Halves, NoMemory>>(
         &mut self,
         double: &F,
         first: Option<u32>,
         second: Option<u32>,
+        precision: u8,
     )
         requires doubles { DoublesPictures (F.pre double.now) (F.post double.now) }
         requires can_be_doubled { All CanBeDoubled self.old }
@@ -105,18 +113,19 @@ impl RefBuffer {
             return;
         };
         match second {
-            None => self.keep_halves_by(double, &[first]),
-            Some(second) => self.keep_halves_by(double, &[first, second]),
+            None => self.keep_halves_by(double, &[first], precision),
+            Some(second) => self.keep_halves_by(double, &[first, second], precision),
         }
     }
 
-    /// Keeps the half samples of the pictures of these numbers, and of no other picture; `double` makes those that
-    /// aren't kept yet. Where memory is refused for one of them, and of a plane above `MOST_KEPT_SAMPLES`, none are
-    /// kept. The list stays as it is.
+    /// Keeps the half samples of the pictures of these numbers, for vectors of this precision, and of no other picture;
+    /// `double` makes those that aren't kept for it yet. Where memory is refused for one of them, what was kept for
+    /// another precision stays, and of a plane above `MOST_KEPT_SAMPLES` none are kept. The list stays as it is.
     pub fn keep_halves_by<F: Fn(&Picture) -> Result<Halves, NoMemory>>(
         &mut self,
         double: &F,
         numbers: &[u32],
+        precision: u8,
     )
         requires doubles { DoublesPictures (F.pre double.now) (F.post double.now) }
         requires can_be_doubled { All CanBeDoubled self.old }
@@ -124,7 +133,7 @@ impl RefBuffer {
     {
         for _ in 0..self.list.len() {
             let reference = self.list.remove(0);
-            self.list.push(kept(double, numbers, reference));
+            self.list.push(kept(double, numbers, precision, reference));
         }
     }
 
@@ -153,10 +162,12 @@ impl RefBuffer {
     }
 }
 
-/// A reference with its half samples if it is one of the pictures of these numbers, else without.
+/// A reference with its half samples for vectors of this precision if it is one of the pictures of these numbers, else
+/// without.
 fn kept<F: Fn(&Picture) -> Result<Halves, NoMemory>>(
     double: &F,
     numbers: &[u32],
+    precision: u8,
     reference: Reference,
 ) -> Reference
     requires doubles { DoublesPictures (F.pre double.now) (F.post double.now) }
@@ -164,7 +175,7 @@ fn kept<F: Fn(&Picture) -> Result<Halves, NoMemory>>(
     ensures { result ≡ reference }
 {
     if numbers.contains(&reference.number()) {
-        reference.doubled_by(double)
+        reference.doubled_by(double, precision)
     } else {
         reference.bare()
     }

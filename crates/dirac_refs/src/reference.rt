@@ -3,7 +3,7 @@ ghost use Rattle.std.specs.Option.{ForSome, option_copied};
 ghost use Rattle.dirac_refs.specs.Halves.{AreHalves, CanBeDoubled, DoublesPictures, IsDoublable};
 
 use dirac_common::{NoMemory, Picture, Plane};
-use dirac_upconvert::{UpPlane, upconvert};
+use dirac_upconvert::{UpPlane, upconvert_for};
 use std::alloc::Global;
 use std::marker::Model;
 
@@ -11,12 +11,20 @@ use std::marker::Model;
 /// of their plane, so those of larger pictures are made plane by plane, when they are needed.
 pub const MOST_KEPT_SAMPLES: u32 = 2_228_224;
 
-/// The planes of a picture with their half samples.
+/// The planes of a picture with their half samples, which may be left out where vectors lead to whole samples.
 #[derive(Debug, Drop)]
 pub struct Halves {
     pub y: UpPlane,
     pub u: UpPlane,
     pub v: UpPlane,
+}
+
+impl Halves {
+    /// Whether vectors of this precision find all that they read: at precision 0 the samples, else half samples too.
+    fn serve(&self, precision: u8) -> bool {
+        precision == 0
+            || self.y.has_half_samples() && self.u.has_half_samples() && self.v.has_half_samples()
+    }
 }
 
 /// A reference picture, and its half samples while they are kept.
@@ -38,23 +46,23 @@ impl Model for Reference {
     ghost invariant = { λ r. ForSome r.halves (AreHalves r.picture) };
 }
 
-/// A plane with its half samples.
-fn doubled(alloc: Global, plane: &Plane) -> Result<UpPlane, NoMemory>
+/// A plane with its half samples, for vectors of this precision.
+fn doubled(alloc: Global, plane: &Plane, precision: u8) -> Result<UpPlane, NoMemory>
     requires { IsDoublable plane.now }
     ensures { IfOk result (λ u. u ≡ Rattle.dirac_refs.specs.Halves.up_of plane.now) }
 {
-    upconvert(alloc, plane)
+    upconvert_for(alloc, plane, precision)
 }
 
-/// All planes of a picture with their half samples, made one after another.
-pub(crate) fn halves_of(alloc: Global, picture: &Picture) -> Result<Halves, NoMemory>
+/// All planes of a picture with their half samples, made one after another for vectors of this precision.
+pub(crate) fn halves_of(alloc: Global, picture: &Picture, precision: u8) -> Result<Halves, NoMemory>
     requires { CanBeDoubled picture.now }
     ensures { IfOk result (AreHalves picture.now) }
 {
     Ok(Halves {
-        y: doubled(alloc, &picture.y)?,
-        u: doubled(alloc, &picture.u)?,
-        v: doubled(alloc, &picture.v)?,
+        y: doubled(alloc, &picture.y, precision)?,
+        u: doubled(alloc, &picture.u, precision)?,
+        v: doubled(alloc, &picture.v, precision)?,
     })
 }
 
@@ -88,11 +96,20 @@ impl Reference {
         &self.picture
     }
 
-    /// Lends the picture's half samples, while they are kept.
-    pub fn halves(&self) -> Option<&Halves>
+    /// Lends the picture's half samples, while they are kept for vectors of this precision.
+    pub fn halves(&self, precision: u8) -> Option<&Halves>
         ensures { ForSome (option_copied result) (AreHalves self.now) }
     {
-        self.halves.as_ref()
+        match &self.halves {
+            None => None,
+            Some(halves) => {
+                if halves.serve(precision) {
+                    Some(halves)
+                } else {
+                    None
+                }
+            }
+        }
     }
 
     /// The reference without half samples.
@@ -102,16 +119,18 @@ impl Reference {
         Reference::new(self.picture)
     }
 
-    /// The reference with its half samples, where they take little room and memory is there; `double` makes them.
+    /// The reference with its half samples for vectors of this precision, where they take little room and memory is
+    /// there; `double` makes those that aren't kept for it yet. Else it is as it was.
     pub(crate) fn doubled_by<F: Fn(&Picture) -> Result<Halves, NoMemory>>(
         self,
         double: &F,
+        precision: u8,
     ) -> Reference
         requires doubles { DoublesPictures (F.pre double.now) (F.post double.now) }
         requires can_be_doubled { CanBeDoubled self }
         ensures { result ≡ self }
     {
-        if self.halves.is_some() || !is_small(&self.picture.y) {
+        if self.halves(precision).is_some() || !is_small(&self.picture.y) {
             return self;
         }
         match double(&self.picture) {

@@ -138,6 +138,10 @@ fn places_below(
     requires has_rows { 1 ≤ tried.window.rows }
     ensures { StopsAt tried.limit (sub_sum source.now up.now precision tried) result }
 {
+    // planes that are searched in parts of a sample hold half samples
+    let Some(lines) = up.lines() else {
+        return sub_below(source, up, precision, tried);
+    };
     let places = line_places(up);
     let rows = Strided {
         first: start_of(places, x.place, y.place),
@@ -146,7 +150,7 @@ fn places_below(
     rows_below(
         bytes.source.as_slice(),
         source_rows(source, tried.window),
-        up.lines(),
+        lines,
         rows,
         tried,
     )
@@ -170,6 +174,10 @@ fn quarters_below(
     requires has_rows { 1 ≤ tried.window.rows }
     ensures { StopsAt tried.limit (sub_sum source.now up.now precision tried) result }
 {
+    // planes that are searched in parts of a sample hold half samples
+    let Some(lines) = up.lines() else {
+        return sub_below(source, up, precision, tried);
+    };
     let places = line_places(up);
     let corners = Corners {
         left: start_of(places, x.place, y.place),
@@ -179,7 +187,7 @@ fn quarters_below(
     means_below(
         bytes.source.as_slice(),
         source_rows(source, tried.window),
-        up.lines(),
+        lines,
         corners,
         4 * places,
         tried,

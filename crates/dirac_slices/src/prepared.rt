@@ -67,13 +67,14 @@ fn with_up<'a>(
     sequence: &Sequence,
     reference: &'a Reference,
     component: Component,
+    precision: u8,
 ) -> Result<Prepared<'a>, NoMemory>
     requires sequence { IsSequence sequence.now }
     requires reference { IsPicture sequence.now reference.now }
     ensures residual { IfOk result (λ p. p.residual ≡ None) }
     ensures up { IfOk result (λ p. p.up ≡ Some (up_of (lent_plane reference.now component))) }
 {
-    let up = up_of_reference(alloc, sequence, reference, component)?;
+    let up = up_of_reference(alloc, sequence, reference, component, precision)?;
     Ok(Prepared {
         residual: None,
         up: Some(up),
@@ -91,12 +92,13 @@ fn with_second<'a>(
     ensures up { IfOk result (λ p. p.up ≡ option_map (λ (s : Picture). up_of (lent_plane s component))
         (lent_inter inter.now).second) }
 {
+    let precision = inter.motion.prediction.precision;
     match inter.second {
         None => Ok(Prepared {
             residual: None,
             up: None,
         }),
-        Some(second) => with_up(alloc, inter.sequence, second, component),
+        Some(second) => with_up(alloc, inter.sequence, second, component, precision),
     }
 }
 
@@ -107,9 +109,10 @@ fn prepare<'a>(alloc: Global, inter: &Inter<'a>, row: u32) -> Result<Prepared<'a
     ensures { IfOk result (IsPreparedAt (lent_inter inter.now) row) }
 {
     let component = component_at(row / 3);
+    let precision = inter.motion.prediction.precision;
     match row % 3 {
         0 => with_residual(alloc, inter, component),
-        1 => with_up(alloc, inter.sequence, inter.first, component),
+        1 => with_up(alloc, inter.sequence, inter.first, component, precision),
         _ => with_second(alloc, inter, component),
     }
 }

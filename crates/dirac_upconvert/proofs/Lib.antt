@@ -6,3 +6,4 @@ pub mod Mixing
 pub mod PartRows
 pub mod Phased
 pub mod SampleRows
+pub mod Wholes

@@ -7,7 +7,7 @@ use Rattle.std.proofs.lemmas.Nat.{pow_pos}
 use Rattle.dirac_common.specs.Table.{Table, clamped_at}
 use Rattle.dirac_upconvert.specs.HalfSamples.{IsSample}
 use Rattle.dirac_upconvert.specs.declared.rows.Position.{Position}
-use Rattle.dirac_upconvert.specs.Positions.{sample_from}
+use Rattle.dirac_upconvert.specs.Positions.{AreSamplesFrom, sample_from}
 use Rattle.dirac_upconvert.specs.SubSamples.{IsRest, IsWithin, Up, bilinear, part_sample, place_at, rest_at, rounded, sub_sample}
 use Rattle.dirac_upconvert.proofs.Halves.{all_samples, clamped_sample}
 use Rattle.dirac_upconvert.proofs.PartRows.{four_at_place, part_more, place_more, rest_more}
@@ -78,3 +78,15 @@ pub rows_samples : (up : Up) (precision : ℕ) (x y : ℤ) (width : ℕ) (out : 
     → ((n : ℕ) → n < length out → get_or out n (pos 0) ≡ sub_sample up precision (x +ℤ pos (2 ^ precision * (n % width))) (y +ℤ pos (2 ^ precision * (n / width)))) → All IsSample out
 rows_samples up precision x y width out few h e =
     all_samples out (λ n l. rw (e n l) (sub_sample_is up precision (x +ℤ pos (2 ^ precision * (n % width))) (y +ℤ pos (2 ^ precision * (n / width))) few h))
+
+-- a row of them, from what is told of rows
+pub row_from : (up : Up) (precision : ℕ) (x y : ℤ) (p : Position) (out : List ℤ) → AreSamplesFrom up.table p out
+    → ((j k : ℕ) → sample_from up.table p k j ≡ sub_sample up precision (x +ℤ pos (2 ^ precision * k)) (y +ℤ pos (2 ^ precision * j)))
+    → (k : ℕ) → k < length out → get_or out k (pos 0) ≡ sub_sample up precision (x +ℤ pos (2 ^ precision * k)) y
+row_from up precision x y p out h told k l =
+    h k l
+    ∙ ap (λ z. rounded (2 * p.rests.bits) (bilinear up.table (2 ^ p.rests.bits) (p.across +ℤ pos (2 * k)) z p.rests.right p.rests.below)) (sym (none_more p.down 2))
+    ∙ told 0 k ∙ ap (sub_sample up precision (x +ℤ pos (2 ^ precision * k))) (none_more y (2 ^ precision))
+  where
+    none_more : (z : ℤ) (n : ℕ) → z +ℤ pos (n * 0) ≡ z
+    none_more z n = omega (arith, ints)

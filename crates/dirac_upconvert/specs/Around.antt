@@ -5,7 +5,7 @@ use Rattle.std.specs.List.{All}
 use Rattle.dirac_upconvert.specs.declared.half_sample.Around.{Around}
 use Rattle.dirac_upconvert.specs.HalfSamples.{IsSample, half_between}
 
--- all are samples
+-- eight samples, four on each side of a half sample
 pub record AreSamplesAround (of : Around ℤ) : Type 0 where
   pub a3 : IsSample of.a3
   pub a2 : IsSample of.a2
@@ -16,7 +16,7 @@ pub record AreSamplesAround (of : Around ℤ) : Type 0 where
   pub b2 : IsSample of.b2
   pub b3 : IsSample of.b3
 
--- the half sample between them
+-- the half sample between eight values, four on each side of it
 abbrev pub between_those : Around ℤ → ℤ
 between_those of = half_between of.a3 of.a2 of.a1 of.a0 of.b0 of.b1 of.b2 of.b3
 
@@ -25,7 +25,7 @@ pub record IsRowOf (count : ℕ) (row : List ℤ) : Type 0 where
   pub len : length row ≡ count
   pub samples : All IsSample row
 
--- all are such rows
+-- eight rows of that many samples, four on each side of a row of half samples
 pub record AreRowsAround (count : ℕ) (of : Around (Bor (List ℤ))) : Type 0 where
   pub a3 : IsRowOf count of.a3.now
   pub a2 : IsRowOf count of.a2.now
@@ -36,7 +36,7 @@ pub record AreRowsAround (count : ℕ) (of : Around (Bor (List ℤ))) : Type 0 w
   pub b2 : IsRowOf count of.b2.now
   pub b3 : IsRowOf count of.b3.now
 
--- the half sample between them in a column
+-- the half sample in column x between eight rows, four on each side of it
 abbrev pub between_rows_at : Around (Bor (List ℤ)) → ℕ → ℤ
 between_rows_at of x =
     half_between (slice_index_or of.a3.now x (pos 0)) (slice_index_or of.a2.now x (pos 0))

@@ -33,7 +33,7 @@ doubled_at line last p = if p % 2 == 0 then line (p / 2) else half_behind line l
 abbrev pub row_doubled_at : Table → ℕ → ℕ → ℤ
 row_doubled_at t x y = doubled_at (λ j. table_at t x j) (t.height - 1) y
 
--- column x of row y of that result with the half samples between its columns
+-- column x of row y of a plane with its half samples: those between its rows, and those between the columns of that
 abbrev pub half_at : Table → ℕ → ℕ → ℤ
 half_at t x y = doubled_at (λ i. row_doubled_at t i y) (t.width - 1) x
 

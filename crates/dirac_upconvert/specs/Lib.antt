@@ -5,3 +5,4 @@ pub mod Places
 pub mod Positions
 pub mod Rests
 pub mod SubSamples
+pub mod WholeSamples

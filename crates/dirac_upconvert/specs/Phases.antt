@@ -10,7 +10,7 @@ place_in_row places x = x % 2 * (places / 2) + x / 2
 abbrev pub phase_at : ℕ → List ℤ → ℕ → ℕ → ℤ
 phase_at columns samples x y = slice_index_or samples (y * (2 * columns) + place_in_row (2 * columns) x) (pos 0)
 
--- the table whose rows they are, between whose even columns and rows the odd ones lie
+-- the table of so many even columns and rows whose rows these samples are, of each its even columns before its odd ones
 abbrev pub table_of_phases : ℕ → ℕ → List ℤ → Table
 table_of_phases columns rows samples = table_of (2 * columns - 1) (2 * rows - 1) (phase_at columns samples)
 

@@ -19,15 +19,15 @@ sample_from t p columns rows =
     rounded (2 * p.rests.bits) (bilinear t (2 ^ p.rests.bits) (p.across +ℤ pos (2 * columns)) (p.down +ℤ pos (2 * rows))
     p.rests.right p.rests.below)
 
--- the samples of its row, from it on
+-- the samples of a position's row, from the position on, each two places behind the one before
 abbrev pub AreSamplesFrom : Table → Position → List ℤ → Type 0
 AreSamplesFrom t p out = AreAlternateSubSamples t p.rests.bits p.across p.down p.rests.right p.rests.below out
 
--- the samples of four rows, eight of each
+-- the samples of four rows from a position on, eight of each, row after row
 abbrev pub AreSamplesByFour : Table → Position → List ℤ → Type 0
 AreSamplesByFour t p out = (j k : ℕ) → j < 4 → k < 8 → slice_index_or out (8 * j + k) (pos 0) ≡ sample_from t p k j
 
--- the samples of rows, row after row, that many of each
+-- the samples of rows from a position on, that many of each, row after row
 abbrev pub AreSamplesByRows : Table → Position → ℕ → List ℤ → Type 0
 AreSamplesByRows t p width out =
     (n : ℕ) → n < length out → slice_index_or out n (pos 0) ≡ sample_from t p (n % width) (n / width)

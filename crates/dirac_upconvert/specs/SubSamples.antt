@@ -13,7 +13,7 @@ pub record Up : Type 0 where
   pub height : ℕ
   pub table : Table
 
--- its table has one half sample between any two samples
+-- the table of an upconverted plane of these sizes: its samples, and one half sample between any two of them
 pub record IsUp (width height : ℕ) (table : Table) : Type 0 where
   pub some_across : 1 ≤ width
   pub most_across : width ≤ LARGEST_SIDE
@@ -27,7 +27,7 @@ pub record IsUp (width height : ℕ) (table : Table) : Type 0 where
 abbrev pub place_at : ℤ → ℕ → ℤ
 place_at position bits = int_shr position bits
 
--- how far the position lies behind that place
+-- how far a position lies behind the place at or before it; each place has 2 ^ bits positions
 abbrev pub rest_at : ℤ → ℕ → ℤ
 rest_at position bits = position -ℤ place_at position bits *ℤ pos (2 ^ bits)
 

@@ -10,5 +10,6 @@ mod phases;
 mod plane;
 mod rows;
 mod shared;
+mod whole_samples;
 
-pub use plane::{UpPlane, upconvert};
+pub use plane::{UpPlane, upconvert, upconvert_for};

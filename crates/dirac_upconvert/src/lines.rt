@@ -103,7 +103,7 @@ fn narrowed(sample: i16) -> i8
 
 /// Writes samples in eight bits into a list from place `first` on.
 #[inline(always)]
-fn put_narrowed(samples: &[i16], out: &mut [i8], first: usize)
+pub fn put_narrowed(samples: &[i16], out: &mut [i8], first: usize)
     requires samples { All IsSample samples.now }
     requires inside { first + length samples.now ≤ length out.old }
     ensures { PutFrom first (length samples.now) (λ k. slice_index_or samples.now k (pos 0)) out.old out.new }

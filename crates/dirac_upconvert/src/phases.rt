@@ -32,7 +32,8 @@ impl Model for Phases {
 }
 
 /// The place from 0 to `size - 1` that is nearest.
-fn nearest(place: i64, size: u32) -> u32
+#[inline(always)]
+pub fn nearest(place: i64, size: u32) -> u32
     requires { 1 ≤ size }
     ensures value { result ≡ clamped_to place size }
     ensures inside { result < size }

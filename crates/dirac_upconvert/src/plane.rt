@@ -1,37 +1,51 @@
 ghost use Rattle.std.specs.Prelude.{◌≡◌, ℕ, ℤ, pos, ◌+◌, ◌-◌, ◌*◌, ◌/◌, ◌%◌, ◌^◌, ◌<◌, ◌≤◌, ◌+ℤ◌, ◌*ℤ◌, length};
 ghost use Rattle.std.specs.Prelude.{slice_index_or, unsigned_abs, IfOk};
 ghost use Rattle.std.specs.List.{All};
+ghost use Rattle.std.specs.Option.{ForSome, option_copied};
 ghost use Rattle.dirac_common.specs.Table.{clamped_at, table_at};
 ghost use Rattle.dirac_upconvert.specs.HalfSamples.{IsSample, half, half_at, half_behind};
 ghost use Rattle.dirac_upconvert.specs.Phases.{AreLines, phase_at, place_in_row};
-ghost use Rattle.dirac_upconvert.specs.Positions.{AreSamplesByFour, IsPositionNear, sample_from};
+ghost use Rattle.dirac_upconvert.specs.Positions.{AreSamplesByFour, AreWholeRows, IsPositionNear, sample_from};
+ghost use Rattle.dirac_upconvert.specs.Rests.{AreRests};
 ghost use Rattle.dirac_upconvert.specs.SubSamples.{IsUp, Up, place_at, rest_at, sub_sample};
+ghost use Rattle.dirac_upconvert.specs.WholeSamples.{AreSubSamplesByRows};
 
 use crate::half_sample::Around;
 use crate::lines::{double_line, half_of_rows};
 use crate::parts::{part, place, rest, twice, whole_sample};
 use crate::phases::Phases;
 use crate::rows::{Position, Rests, lower, put, row_parts, rows_of_parts};
+use crate::whole_samples::WholeSamples;
 use dirac_common::{LARGEST_SIDE, NoMemory, Plane};
 use std::alloc::Global;
 use std::marker::Model;
 
-/// A reference plane with its half samples, and the size that it had without them.
+/// The samples of a reference plane.
+#[derive(Debug, Drop)]
+enum Samples {
+    /// With the half samples between them.
+    Doubled(Phases),
+    /// The samples alone, for vectors that lead to whole samples; a half sample that is asked for is worked out.
+    Alone(WholeSamples),
+}
+
+/// A reference plane, seen with its half samples whether it holds them or not, and its size without them.
 #[derive(Debug, Drop)]
 pub struct UpPlane {
     width: u32,
     height: u32,
-    table: Phases,
+    samples: Samples,
 }
 
 impl Model for UpPlane {
     ghost use Rattle.dirac_upconvert.specs.SubSamples.{IsUp, Up};
+    ghost use Rattle.dirac_upconvert.specs.WholeSamples.{all_in};
 
     ghost Value = { Up };
 
-    ghost view = { λ u. record { width = u.width; height = u.height; table = u.table } };
+    ghost view = { λ u. record { width = u.width; height = u.height; table = all_in u.samples } };
 
-    ghost invariant = { λ u. IsUp u.width u.height u.table };
+    ghost invariant = { λ u. IsUp u.width u.height (all_in u.samples) };
 }
 
 /// Lends row `y` of a plane of samples.
@@ -130,8 +144,48 @@ pub fn upconvert(alloc: Global, plane: &Plane) -> Result<UpPlane, NoMemory>
     Ok(UpPlane {
         width,
         height,
-        table,
+        samples: Samples::Doubled(table),
     })
+}
+
+/// The plane as `upconvert` gives it, but it holds its samples alone: each half sample is worked out where it is asked
+/// for.
+fn without_halves(alloc: Global, plane: &Plane) -> Result<UpPlane, NoMemory>
+    requires across { plane.now.width ≤ LARGEST_SIDE }
+    requires down { plane.now.height ≤ LARGEST_SIDE }
+    requires samples { All IsSample plane.now.values }
+    ensures { IfOk result (λ u. u ≡ record {
+      width = plane.now.width;
+      height = plane.now.height;
+      table = half plane.now;
+    }) }
+{
+    let samples = WholeSamples::of(alloc, plane)?;
+    Ok(UpPlane {
+        width: plane.width(),
+        height: plane.height(),
+        samples: Samples::Alone(samples),
+    })
+}
+
+/// The plane as `upconvert` gives it, made for vectors that count in 2 to the power `precision` parts of a sample: at
+/// precision 0 they lead to whole samples, and no half sample is made. Each that is asked for all the same is worked
+/// out then, from up to 64 samples.
+pub fn upconvert_for(alloc: Global, plane: &Plane, precision: u8) -> Result<UpPlane, NoMemory>
+    requires across { plane.now.width ≤ LARGEST_SIDE }
+    requires down { plane.now.height ≤ LARGEST_SIDE }
+    requires samples { All IsSample plane.now.values }
+    ensures { IfOk result (λ u. u ≡ record {
+      width = plane.now.width;
+      height = plane.now.height;
+      table = half plane.now;
+    }) }
+{
+    if precision == 0 {
+        without_halves(alloc, plane)
+    } else {
+        upconvert(alloc, plane)
+    }
 }
 
 /// Writes the samples from a position on, two columns and two rows apart: four rows of eight.
@@ -213,6 +267,67 @@ fn position_of(precision: u8, x: i64, y: i64) -> Position
     }
 }
 
+/// The rests of a position whose columns and rows are counted in parts, 2 to the power `bits` to a place.
+#[inline(always)]
+fn rests_of(bits: u32, x: i64, y: i64) -> Rests
+    requires bits { bits ≤ 2 }
+    ensures rests { AreRests result }
+    ensures bits { result.bits ≡ bits }
+    ensures right { result.right ≡ rest_at x bits }
+    ensures below { result.below ≡ rest_at y bits }
+{
+    Rests {
+        bits,
+        right: rest(x, bits),
+        below: rest(y, bits),
+    }
+}
+
+/// The sample at a position of a plane whose half samples are made.
+fn sample_doubled(table: &Phases, precision: u8, x: i64, y: i64) -> i16
+    requires precision { precision ≤ 3 }
+    requires x { unsigned_abs x < 2 ^ 32 }
+    requires y { unsigned_abs y < 2 ^ 32 }
+    ensures { (u : Up) → u.table ≡ table.now → result ≡ sub_sample u precision x y }
+{
+    if precision == 0 {
+        whole_sample(table, x, y)
+    } else {
+        part(table, u32::from(precision) - 1, x, y)
+    }
+}
+
+/// The sample at a position of a plane whose half samples aren't made.
+fn sample_alone(samples: &WholeSamples, precision: u8, x: i64, y: i64) -> i16
+    requires precision { precision ≤ 3 }
+    requires x { unsigned_abs x < 2 ^ 32 }
+    requires y { unsigned_abs y < 2 ^ 32 }
+    ensures { (u : Up) → u.table ≡ half samples.now → result ≡ sub_sample u precision x y }
+{
+    if precision == 0 {
+        samples.clamped(x, y)
+    } else {
+        let bits = u32::from(precision) - 1;
+        samples.part(rests_of(bits, x, y), place(x, bits), place(y, bits))
+    }
+}
+
+/// Writes rows of `width` samples from a position on, of a plane whose half samples aren't made.
+#[inline(always)]
+fn rows_alone(samples: &WholeSamples, precision: u8, x: i64, y: i64, width: usize, out: &mut [i16])
+    requires precision { precision ≤ 3 }
+    requires x { unsigned_abs x < 2 ^ 31 }
+    requires y { unsigned_abs y < 2 ^ 32 }
+    requires rows { AreWholeRows width out.old }
+    ensures { (u : Up) → u.table ≡ half samples.now → AreSubSamplesByRows u precision x y width out.new }
+{
+    if precision == 0 {
+        samples.samples_of_rows(x, y, width, out);
+    } else {
+        samples.rows_of_parts(position_of(precision, x, y), width, out);
+    }
+}
+
 impl UpPlane {
     /// The sample at column `x` and row `y`, both counted in 2 to the power `precision` parts of a sample
     /// (sub-pixel prediction, Dirac specification). Positions may lie outside the plane.
@@ -223,10 +338,9 @@ impl UpPlane {
         ensures value { result ≡ sub_sample self.now precision x y }
         ensures sample { IsSample result }
     {
-        if precision == 0 {
-            whole_sample(&self.table, x, y)
-        } else {
-            part(&self.table, u32::from(precision) - 1, x, y)
+        match &self.samples {
+            Samples::Alone(samples) => sample_alone(samples, precision, x, y),
+            Samples::Doubled(table) => sample_doubled(table, precision, x, y),
         }
     }
 
@@ -246,13 +360,25 @@ impl UpPlane {
         self.height
     }
 
-    /// Lends the samples and half samples, in lines of as many places as the plane has columns: of each row first its
-    /// even columns, and in the next line its odd ones; the last place of such a line holds no sample, and its value is
-    /// not told. So samples that are a whole sample apart stand side by side.
-    pub fn lines(&self) -> &[i8]
-        ensures { AreLines self.now.table self.now.width result.now }
+    /// Lends the samples and half samples, or none where no half samples are held. They stand in lines of as many
+    /// places as the plane has columns: of each row first its even columns, and in the next line its odd ones; the last
+    /// place of such a line holds no sample, and its value is not told. So samples that are a whole sample apart stand
+    /// side by side.
+    pub fn lines(&self) -> Option<&[i8]>
+        ensures { ForSome (option_copied result) (AreLines self.now.table self.now.width) }
     {
-        self.table.lines()
+        match &self.samples {
+            Samples::Alone(_) => None,
+            Samples::Doubled(table) => Some(table.lines()),
+        }
+    }
+
+    /// Whether it holds half samples, so that none has to be worked out.
+    pub fn has_half_samples(&self) -> bool {
+        match &self.samples {
+            Samples::Alone(_) => false,
+            Samples::Doubled(_) => true,
+        }
     }
 
     /// Writes the samples of row `y` from column `x` on, a whole sample apart; both are counted in 2 to the power
@@ -266,7 +392,12 @@ impl UpPlane {
             ≡ sub_sample self.now precision (x +ℤ pos (2 ^ precision * k)) y }
         ensures samples { All IsSample out.new }
     {
-        row_parts(&self.table, position_of(precision, x, y), out);
+        match &self.samples {
+            Samples::Alone(samples) => {
+                rows_alone(samples, precision, x, y, out.len().max(1), out);
+            }
+            Samples::Doubled(table) => row_parts(table, position_of(precision, x, y), out),
+        }
     }
 
     /// Writes the samples of rows of `width`, row after row, from column `x` of row `y` on, a whole sample apart; both
@@ -283,7 +414,12 @@ impl UpPlane {
             * (n / width))) }
         ensures samples { All IsSample out.new }
     {
-        rows_of_parts(&self.table, position_of(precision, x, y), width, out);
+        match &self.samples {
+            Samples::Alone(samples) => rows_alone(samples, precision, x, y, width, out),
+            Samples::Doubled(table) => {
+                rows_of_parts(table, position_of(precision, x, y), width, out);
+            }
+        }
     }
 
     /// Writes the samples of four rows of eight, row after row, from column `x` of row `y` on, a whole sample apart;
@@ -296,6 +432,9 @@ impl UpPlane {
         ensures value { (j k : ℕ) → j < 4 → k < 8 → slice_index_or out.new (8 * j + k) (pos 0)
             ≡ sub_sample self.now precision (x +ℤ pos (2 ^ precision * k)) (y +ℤ pos (2 ^ precision * j)) }
     {
-        eight_by_four(&self.table, position_of(precision, x, y), out);
+        match &self.samples {
+            Samples::Alone(samples) => rows_alone(samples, precision, x, y, 8, out),
+            Samples::Doubled(table) => eight_by_four(table, position_of(precision, x, y), out),
+        }
     }
 }

@@ -25,7 +25,7 @@ pub fn ahead(place: i64, count: usize) -> i64
 }
 
 #[inline(always)]
-fn beside(place: i64) -> i64
+pub fn beside(place: i64) -> i64
     requires { unsigned_abs place ≤ 2 ^ 35 }
     ensures { result ≡ place +ℤ pos 1 }
 {
@@ -119,7 +119,7 @@ fn beside_each_other(bits: u32, right: i16, a: i16, b: i16) -> i16
 
 /// The sample between four others, two above and two below.
 #[inline(always)]
-fn between_four(rests: Rests, v00: i16, v10: i16, v01: i16, v11: i16) -> i16
+pub fn between_four(rests: Rests, v00: i16, v10: i16, v01: i16, v11: i16) -> i16
     requires rests { AreRests rests }
     requires v00 { IsSample v00 }
     requires v10 { IsSample v10 }
@@ -341,7 +341,7 @@ fn copy_by_eights(row: &[i8], at: usize, out: &mut [i16])
 
 /// The samples of a row from place `at` on: eight side by side.
 #[inline(always)]
-fn copy_row(row: &[i8], at: usize, out: &mut [i16])
+pub fn copy_row(row: &[i8], at: usize, out: &mut [i16])
     requires inside { at + length out.old ≤ length row.now }
     ensures { (k : ℕ) → k < length out.old → slice_index_or out.new k (pos 0)
         ≡ slice_index_or row.now (at + k) (pos 0) }

@@ -82,3 +82,14 @@ fn two_workers_decode_what_refers_to_the_same_pictures(rt: HostRuntime) -> Resul
     let made = encoded_many(&rt, alloc, &settings, 4, &OpenGate)?;
     shares(&rt, alloc, made.stream.taken(), made.shown.taken(), 4, 9)
 }
+
+// The same at precision 0, where no half sample is made: an intra picture has three calls, the picture behind it that
+// refers to it three, and the two between them one, in which each is decoded whole by one of the workers.
+#[test]
+fn two_workers_decode_what_refers_to_whole_samples(rt: HostRuntime) -> Result<(), NoMemory> {
+    let alloc = rt.alloc();
+    let mut settings = sized(320, 208);
+    settings.precision = 0;
+    let made = encoded_many(&rt, alloc, &settings, 4, &OpenGate)?;
+    shares(&rt, alloc, made.stream.taken(), made.shown.taken(), 4, 7)
+}

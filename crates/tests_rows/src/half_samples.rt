@@ -2,7 +2,7 @@ ghost use Rattle.std.specs.Prelude.{All, IsTrue};
 ghost use Rattle.dirac_upconvert.specs.HalfSamples.{IsSample};
 
 use dirac_common::{NoMemory, Plane};
-use dirac_upconvert::{UpPlane, upconvert};
+use dirac_upconvert::{UpPlane, upconvert, upconvert_for};
 use std::alloc::Global;
 use std::process::Abort;
 
@@ -41,7 +41,15 @@ fn upconverted<R: Abort>(rt: &R, alloc: Global, plane: &Plane) -> Result<UpPlane
     upconvert(alloc, plane)
 }
 
-/// Compares the values at positions of the half samples of a plane: precision, column, row and value.
+/// A plane upconverted for vectors that lead to whole samples: it holds no half samples.
+fn of_whole_samples<R: Abort>(rt: &R, alloc: Global, plane: &Plane) -> Result<UpPlane, NoMemory> {
+    assert!(rt; plane.width() <= 4096 && plane.height() <= 4096);
+    assert!(rt; are_samples(plane.values()));
+    upconvert_for(alloc, plane, 0)
+}
+
+/// Compares the values at positions of the half samples of a plane, made and worked out: precision, column, row and
+/// value.
 fn shows<R: Abort>(
     rt: &R,
     alloc: Global,
@@ -50,13 +58,20 @@ fn shows<R: Abort>(
     rows: &[(u8, i64, i64, i16)],
 ) -> Result<(), NoMemory> {
     let (width, height) = size;
-    let up = upconverted(rt, alloc, &plane(rt, alloc, width, height, samples)?)?;
+    let plane = plane(rt, alloc, width, height, samples)?;
+    let up = upconverted(rt, alloc, &plane)?;
+    let alone = of_whole_samples(rt, alloc, &plane)?;
     for (precision, x, y, wanted) in rows {
         assert!(rt; *precision <= 3 && -1000 < *x && *x < 1000 && -1000 < *y && *y < 1000);
         assert_eq!(rt;
             up.at(*precision, *x, *y),
             *wanted,
             "precision {precision} at {x}, {y}"
+        );
+        assert_eq!(rt;
+            alone.at(*precision, *x, *y),
+            *wanted,
+            "precision {precision} at {x}, {y}, worked out"
         );
     }
     Ok(())
@@ -121,7 +136,7 @@ fn positions_of_three_by_two(rt: HostRuntime) -> Result<(), NoMemory> {
 fn lines_of_one_row_and_of_three(rt: HostRuntime) -> Result<(), NoMemory> {
     let alloc = rt.alloc();
     let up = upconverted(&rt, alloc, &plane(&rt, alloc, 2, 1, &[0, 32])?)?;
-    let lines = up.lines();
+    let lines = up.lines().unwrap_or(&[]);
     // the even columns, then the odd one; the last place is no sample
     assert!(rt; lines.len() == 4);
     assert!(rt; lines[0] == 0 && lines[1] == 32 && lines[2] == 16);
@@ -130,7 +145,7 @@ fn lines_of_one_row_and_of_three(rt: HostRuntime) -> Result<(), NoMemory> {
         alloc,
         &plane(&rt, alloc, 3, 2, &[10, -20, 30, 40, -50, 60])?,
     )?;
-    let lines = up.lines();
+    let lines = up.lines().unwrap_or(&[]);
     assert!(rt; lines.len() == 18);
     // of each row, and of the one between them, the even columns and then the odd ones; 0 stands for a last place
     let wanted = [
@@ -138,6 +153,83 @@ fn lines_of_one_row_and_of_three(rt: HostRuntime) -> Result<(), NoMemory> {
     ];
     for k in 0..18 {
         assert!(rt; k == 5 || k == 11 || k == 17 || lines[k] == wanted[k]);
+    }
+    Ok(())
+}
+
+// Rows of a plane of eight by three, whose column x of row y is 16 y + x, at places past its edges: each sample is the
+// nearest one of the plane.
+#[test]
+fn whole_samples_past_the_edges(rt: HostRuntime) -> Result<(), NoMemory> {
+    let alloc = rt.alloc();
+    let samples = [
+        0, 1, 2, 3, 4, 5, 6, 7, 16, 17, 18, 19, 20, 21, 22, 23, 32, 33, 34, 35, 36, 37, 38, 39,
+    ];
+    let plane = plane(&rt, alloc, 8, 3, &samples)?;
+    let alone = of_whole_samples(&rt, alloc, &plane)?;
+    assert!(rt; !alone.has_half_samples() && alone.lines().is_none());
+    assert!(rt; upconvert_for(alloc, &plane, 1)?.has_half_samples());
+    // rows of five, of which the first stands above the plane
+    let mut rows = [0i16; 20];
+    alone.sub_rows(0, -2, -1, 5, &mut rows);
+    let wanted = [
+        0, 0, 0, 1, 2, 0, 0, 0, 1, 2, 16, 16, 16, 17, 18, 32, 32, 32, 33, 34,
+    ];
+    assert_eq!(rt; rows, wanted);
+    // the last rows, of eight, which lie inside, and one more below
+    let mut eights = [0i16; 24];
+    alone.sub_rows(0, 0, 1, 8, &mut eights);
+    let wanted = [
+        16, 17, 18, 19, 20, 21, 22, 23, 32, 33, 34, 35, 36, 37, 38, 39, 32, 33, 34, 35, 36, 37, 38,
+        39,
+    ];
+    assert_eq!(rt; eights, wanted);
+    let mut sixteen = [0i16; 16];
+    alone.sub_rows(0, -4, 2, 16, &mut sixteen);
+    let wanted = [
+        32, 32, 32, 32, 32, 33, 34, 35, 36, 37, 38, 39, 39, 39, 39, 39,
+    ];
+    assert_eq!(rt; sixteen, wanted);
+    let mut row = [0i16; 3];
+    alone.sub_row(0, 6, 0, &mut row);
+    assert_eq!(rt; row, [6, 7, 7]);
+    alone.sub_row(0, 6, 0, &mut []);
+    let mut four = [0i16; 32];
+    alone.sub_eight_by_four(0, 1, 0, &mut four);
+    let wanted = [
+        1, 2, 3, 4, 5, 6, 7, 7, 17, 18, 19, 20, 21, 22, 23, 23, 33, 34, 35, 36, 37, 38, 39, 39, 33,
+        34, 35, 36, 37, 38, 39, 39,
+    ];
+    assert_eq!(rt; four, wanted);
+    Ok(())
+}
+
+// Rows at every precision, past all edges: half samples that are made and half samples that are worked out are the same
+// ones. `positions_of_three_by_two` has some of their values.
+#[test]
+fn rows_of_parts_made_and_worked_out(rt: HostRuntime) -> Result<(), NoMemory> {
+    let alloc = rt.alloc();
+    let plane = plane(&rt, alloc, 3, 2, &[10, -20, 30, 40, -50, 60])?;
+    let up = upconverted(&rt, alloc, &plane)?;
+    let alone = of_whole_samples(&rt, alloc, &plane)?;
+    for precision in 0..4u8 {
+        for x in -5..20i64 {
+            let mut made = [0i16; 24];
+            let mut worked_out = [1i16; 24];
+            up.sub_rows(precision, x, 3 - x, 6, &mut made);
+            alone.sub_rows(precision, x, 3 - x, 6, &mut worked_out);
+            assert_eq!(rt; made, worked_out);
+            let mut made = [0i16; 32];
+            let mut worked_out = [1i16; 32];
+            up.sub_eight_by_four(precision, x, x - 4, &mut made);
+            alone.sub_eight_by_four(precision, x, x - 4, &mut worked_out);
+            assert_eq!(rt; made, worked_out);
+            let mut made = [0i16; 9];
+            let mut worked_out = [1i16; 9];
+            up.sub_row(precision, x, 1, &mut made);
+            alone.sub_row(precision, x, 1, &mut worked_out);
+            assert_eq!(rt; made, worked_out);
+        }
     }
     Ok(())
 }
