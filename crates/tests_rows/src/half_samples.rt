@@ -41,11 +41,16 @@ fn upconverted<R: Abort>(rt: &R, alloc: Global, plane: &Plane) -> Result<UpPlane
     upconvert(alloc, plane)
 }
 
-/// A plane upconverted for vectors that lead to whole samples: it holds no half samples.
-fn of_whole_samples<R: Abort>(rt: &R, alloc: Global, plane: &Plane) -> Result<UpPlane, NoMemory> {
+/// A plane upconverted for vectors of this precision: at precision 0 it holds no half samples.
+fn upconverted_for<R: Abort>(
+    rt: &R,
+    alloc: Global,
+    plane: &Plane,
+    precision: u8,
+) -> Result<UpPlane, NoMemory> {
     assert!(rt; plane.width() <= 4096 && plane.height() <= 4096);
     assert!(rt; are_samples(plane.values()));
-    upconvert_for(alloc, plane, 0)
+    upconvert_for(alloc, plane, precision)
 }
 
 /// Compares the values at positions of the half samples of a plane, made and worked out: precision, column, row and
@@ -60,7 +65,7 @@ fn shows<R: Abort>(
     let (width, height) = size;
     let plane = plane(rt, alloc, width, height, samples)?;
     let up = upconverted(rt, alloc, &plane)?;
-    let alone = of_whole_samples(rt, alloc, &plane)?;
+    let alone = upconverted_for(rt, alloc, &plane, 0)?;
     for (precision, x, y, wanted) in rows {
         assert!(rt; *precision <= 3 && -1000 < *x && *x < 1000 && -1000 < *y && *y < 1000);
         assert_eq!(rt;
@@ -166,9 +171,9 @@ fn whole_samples_past_the_edges(rt: HostRuntime) -> Result<(), NoMemory> {
         0, 1, 2, 3, 4, 5, 6, 7, 16, 17, 18, 19, 20, 21, 22, 23, 32, 33, 34, 35, 36, 37, 38, 39,
     ];
     let plane = plane(&rt, alloc, 8, 3, &samples)?;
-    let alone = of_whole_samples(&rt, alloc, &plane)?;
+    let alone = upconverted_for(&rt, alloc, &plane, 0)?;
     assert!(rt; !alone.has_half_samples() && alone.lines().is_none());
-    assert!(rt; upconvert_for(alloc, &plane, 1)?.has_half_samples());
+    assert!(rt; upconverted_for(&rt, alloc, &plane, 1)?.has_half_samples());
     // rows of five, of which the first stands above the plane
     let mut rows = [0i16; 20];
     alone.sub_rows(0, -2, -1, 5, &mut rows);
@@ -211,9 +216,10 @@ fn rows_of_parts_made_and_worked_out(rt: HostRuntime) -> Result<(), NoMemory> {
     let alloc = rt.alloc();
     let plane = plane(&rt, alloc, 3, 2, &[10, -20, 30, 40, -50, 60])?;
     let up = upconverted(&rt, alloc, &plane)?;
-    let alone = of_whole_samples(&rt, alloc, &plane)?;
+    let alone = upconverted_for(&rt, alloc, &plane, 0)?;
     for precision in 0..4u8 {
-        for x in -5..20i64 {
+        for place in 0..25u8 {
+            let x = i64::from(place) - 5;
             let mut made = [0i16; 24];
             let mut worked_out = [1i16; 24];
             up.sub_rows(precision, x, 3 - x, 6, &mut made);
