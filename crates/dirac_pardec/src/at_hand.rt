@@ -11,9 +11,9 @@ use std::marker::Sync;
 use std::thread::Threads;
 
 /// Decodes a picture. One that was decoded ahead is at hand; an intra picture is decoded with the other intra pictures
-/// that were read ahead, any other one with the inter pictures behind it up to the next reference picture, each by one
-/// worker. Where they are too few or too large, or it is refused, it is decoded by workers that share its rows, and by
-/// a single worker as `decode_picture` does.
+/// that were read ahead, each by one worker, any other one with the inter pictures behind it up to the next reference
+/// picture, each by one worker or by several that share its rows. Where they are too few or too large, or it is
+/// refused, it is decoded by all workers, that share its rows, and by a single worker as `decode_picture` does.
 pub(crate) fn decode_at_hand<R: Threads + Sync, G: RowGate>(
     crew: &Crew<R, G>,
     lot: &Lot,

@@ -25,18 +25,32 @@ impl<'a, R, G> Crew<'a, R, G> {
     pub(crate) fn for_picture_of(&self, sequence: &Sequence) -> Crew<'a, R, G> {
         Crew::new(self.rt, workers_for(sequence, self.workers), self.gate)
     }
+
+    /// How many of them each of so many pictures has while these are decoded side by side: at least one.
+    pub(crate) fn each_of(&self, pictures: u32) -> u32
+        requires { 1 ≤ pictures }
+        ensures { (1 ≤ result) × (result ≤ 64) }
+    {
+        (self.workers / pictures).max(1)
+    }
 }
 
 /// The most luma samples of a picture that is decoded ahead: all that are decoded together are held at once.
 const MOST_LUMA_SAMPLES_AHEAD: u64 = 8_388_608;
 
-/// Whether so many pictures of this sequence are sooner decoded side by side than by workers that share the rows of
+/// Whether so many pictures of this sequence are several, and small enough to be held at once.
+pub(crate) fn are_several(pictures: usize, sequence: &Sequence) -> bool
+    ensures { result ≡ true → 1 < pictures }
+{
+    pictures >= 2
+        && u64::from(sequence.width) * u64::from(sequence.picture_height())
+            <= MOST_LUMA_SAMPLES_AHEAD
+}
+
+/// Whether so many pictures of this sequence are sooner decoded by a worker each than by workers that share the rows of
 /// each, and are small enough to be held at once.
 pub(crate) fn are_enough<R, G>(crew: &Crew<R, G>, pictures: usize, sequence: &Sequence) -> bool
     ensures { result ≡ true → 1 < pictures }
 {
-    pictures >= 2
-        && pictures > crew.workers as usize / 2
-        && u64::from(sequence.width) * u64::from(sequence.picture_height())
-            <= MOST_LUMA_SAMPLES_AHEAD
+    pictures > crew.workers as usize / 2 && are_several(pictures, sequence)
 }

@@ -1,5 +1,6 @@
-//! Inter pictures that are decoded while the same pictures are listed, decoded at once, each by one worker: one that is
-//! asked for, and of the units read ahead those behind it, up to the first reference picture or end unit.
+//! Inter pictures that are decoded while the same pictures are listed, decoded at once, each by one worker or by
+//! workers of its own that share its rows: one that is asked for, and of the units read ahead those behind it, up to
+//! the first reference picture or end unit.
 
 ghost use Rattle.std.specs.Prelude.{◌≡◌, true, ◌<◌, ◌≤◌, length, IfOk, IfSome, IsTrue, Ok};
 ghost use Rattle.std.specs.Thread.{IsSync};
@@ -9,8 +10,8 @@ ghost use Rattle.dirac_decode_picture.specs.Payload.{CanBeDecoded, DecodesPayloa
 ghost use Rattle.dirac_pardec.specs.Run.{CanAllBeDecoded};
 
 use crate::asked::Asked;
-use crate::by_rows::decode_reading_by_rows;
-use crate::crew::{Crew, are_enough};
+use crate::by_rows::{decode_listed_by_rows, decode_reading_by_rows};
+use crate::crew::{Crew, are_several};
 use crate::front::{front_of, units_from};
 use crate::halves::keep_halves_by_rows;
 use dirac_bits::BitReader;
@@ -96,9 +97,11 @@ fn precision_among(units: &[InterUnit<'_>], sequence: &Sequence) -> u8 {
     greatest
 }
 
-/// Decodes a picture before it is asked for; none where it is refused.
+/// Decodes a picture before it is asked for, by workers that share its rows, or with `reading` by workers that read its
+/// bands and one that rebuilds it; none where it is refused.
 fn decode_ahead<R: Threads + Sync, G: RowGate>(
     crew: &Crew<R, G>,
+    reading: bool,
     alloc: Global,
     unit: InterUnit<'_>,
     sequence: &Sequence,
@@ -112,12 +115,17 @@ fn decode_ahead<R: Threads + Sync, G: RowGate>(
         code: unit.code,
         sequence,
     };
-    let decoded = decode_reading_by_rows(crew, alloc, asked, refs);
+    let decoded = if reading {
+        decode_reading_by_rows(crew, alloc, asked, refs)
+    } else {
+        decode_listed_by_rows(crew, alloc, asked, refs)
+    };
     DecodedAhead::try_new(alloc, unit.payload, unit.code, sequence, decoded)
 }
 
-/// Decodes these pictures side by side, a worker each; of the workers that are left one more reads the bands of each of
-/// the last pictures. The first picture comes last.
+/// Decodes these pictures side by side. Where there are at least two workers for each, these share its rows. Else each
+/// has one, and of the workers that are left one more reads the bands of each of the last pictures. The first picture
+/// comes last.
 fn decode_units<R: Threads + Sync, G: RowGate>(
     crew: &Crew<R, G>,
     alloc: Global,
@@ -130,15 +138,18 @@ fn decode_units<R: Threads + Sync, G: RowGate>(
     ensures { IfOk result (λ v. AreDecodedFrom refs.now v.items) }
 {
     let last = (units.len() - 1).min(63) as u32;
+    let each = crew.each_of(last + 1);
     let left = crew.workers.saturating_sub(last + 1);
     let work = |row: u32| -> Result<Option<DecodedAhead>, NoMemory>
         requires { IsSync R.row × IsSync G.row × CanAllBeDecoded sequence.now refs.now × (row ≤ last)
-            × (last < length units.now) }
+            × (last < length units.now) × ((1 ≤ each) × (each ≤ 64)) }
         ensures { IfOk result (λ a. IfSome a (IsDecodedFrom refs.entry.now)) }
     {
-        let readers = Crew::new(crew.rt, if row < left { 2 } else { 1 }, crew.gate);
+        let readers = if row < left { 2 } else { 1 };
+        let own = Crew::new(crew.rt, if each == 1 { readers } else { each }, crew.gate);
         decode_ahead(
-            &readers,
+            &own,
+            each == 1,
             alloc,
             units[(last - row) as usize],
             sequence,
@@ -149,8 +160,8 @@ fn decode_units<R: Threads + Sync, G: RowGate>(
 }
 
 /// A picture that is decoded beside those behind it among these units, which are kept until they are asked for. None
-/// where there are too few of them, so that the workers decode a picture sooner together, where they are too large, and
-/// where it is refused. An error is want of memory for that many.
+/// where there is none behind it, where they are too large, and where it is refused. An error is want of memory for
+/// that many.
 pub(crate) fn decode_run<R: Threads + Sync, G: RowGate>(
     crew: &Crew<R, G>,
     alloc: Global,
@@ -168,7 +179,7 @@ pub(crate) fn decode_run<R: Threads + Sync, G: RowGate>(
         return Ok(None);
     };
     let pictures = inter_units_to_reference(alloc, units)?;
-    if !are_enough(crew, pictures.len(), asked.sequence) {
+    if !are_several(pictures.len(), asked.sequence) {
         return Ok(None);
     }
     let numbers = numbers_named(alloc, pictures.as_slice())?;

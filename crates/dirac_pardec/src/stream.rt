@@ -23,11 +23,13 @@ use std::thread::Threads;
 
 /// Decodes a whole stream, as `decode_stream`, by that many workers. From 2 to 15 workers units are read ahead, with
 /// twice as many pictures as there are workers, eight at most. Of these the intra pictures up to the first end unit are
-/// decoded several at once, a worker each, and so are inter pictures up to the next reference picture, that one too,
-/// where they are at least two, more than half as many as there are workers, and of at most 2^23 luma samples. All
-/// other pictures are read and rebuilt as `read_planes_rows` and `rebuild_rows` do, and by a single worker as
-/// `decode_stream` does. Before inter pictures are rebuilt, the half samples of each picture that they refer to and
-/// that keeps none yet are made by a map whose rows are its three planes, unless these are too large to be kept.
+/// decoded at once, a worker each, where they are at least two, and more than half as many as there are workers. Inter
+/// pictures up to the next reference picture, that one too, are decoded at once where they are at least two: by a
+/// worker each, or where there are two or more for each by workers of its own, which read and rebuild it as
+/// `read_planes_rows` and `rebuild_rows` do. All other pictures, and all of more than 2^23 luma samples, are read and
+/// rebuilt so by all workers, and by a single worker as `decode_stream` does. Before inter pictures are rebuilt, the
+/// half samples of each picture that they refer to and that keeps none yet are made by a map whose rows are its three
+/// planes, unless these are too large to be kept.
 pub fn decode_rows<R: Threads + Sync, S: Source, K: Sink, G: RowGate>(
     rt: &R,
     alloc: Global,

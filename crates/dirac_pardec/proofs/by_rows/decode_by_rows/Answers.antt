@@ -10,8 +10,8 @@ use Rattle.dirac_pardec.proofs.by_rows.decode_by_rows.Goals as goal
 pub keep_named_halves-requires-after_bounds : goal.keep_named_halves-requires-after_bounds
 keep_named_halves-requires-after_bounds g c = λ lives bound. references_doubled c.args.asked.sequence.now c.args.refs.now c.requires.sequence c.requires.listed
 
-pub rebuild_rows-requires-clause-refs : goal.rebuild_rows-requires-clause-refs
-rebuild_rows-requires-clause-refs g c =
+pub rebuild_by_rows-requires-clause-refs : goal.rebuild_by_rows-requires-clause-refs
+rebuild_by_rows-requires-clause-refs g c =
     λ lives bound.
     let header = c.in_ok-coded.coded.header in
     let there = subst (λ (refs : List Picture). IsTrue (are_listed refs header)) c.list.ensures c.in_ok-coded.ensures.listed in
