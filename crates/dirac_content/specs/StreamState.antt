@@ -59,6 +59,12 @@ header_step state None payload = opening state payload (sequence_read payload)
 header_step state (Some o) payload =
     if is_same payload o.header then Ok (staying state) else Err (record { at = 0; cause = SequenceChanged })
 
+-- what a sequence header brings where this was opened by it: a sequence, or none, since one is open; or its refusal
+abbrev pub opened_in : StreamState → Result (Option Opened) Refusal → Result StreamStep Refusal
+opened_in state (Ok None) = Ok (staying state)
+opened_in state (Ok (Some o)) = Ok (staying (record state { opened = Some o; first = None }))
+opened_in state (Err refusal) = Err refusal
+
 -- the number of the sequence's first picture
 abbrev pub first_or : Option ℕ → ℕ → ℕ
 first_or None number = number

@@ -14,6 +14,6 @@ mod written;
 
 pub use laws::{a_stream_shows_its_sequences, what_leaves_is_shown};
 pub use lookups::{named, named_reference};
-pub use opened::Opened;
+pub use opened::{Opened, behind_parse_info, have_same_payload, opened_by};
 pub use tally::Tally;
 pub use written::{byte, put_picture};

@@ -1,19 +1,18 @@
 ghost use Rattle.std.specs.Prelude.{◌≡◌, ℕ, ◌<◌, ◌≤◌, ◌^◌, length, IsTrue, Ok, Option};
 ghost use Rattle.dirac_picture.specs.Grammar.{is_picture};
 ghost use Rattle.dirac_decode_picture.specs.Payload.{CanBeDecoded, DecodesPayload, DecodesPictures};
-ghost use Rattle.dirac_content.specs.StreamState.{as_reference, stream_begun, header_step, in_unit};
-ghost use Rattle.dirac_content.specs.StreamState.{is_same as same_header};
+ghost use Rattle.dirac_content.specs.StreamState.{as_reference, stream_begun, header_step};
 ghost use Rattle.dirac_content.specs.StreamState.{first_or as first_of, unit_step, passed, picture_step};
 ghost use Rattle.dirac_decode.specs.Stepping.{opened_sequence};
 ghost use Rattle.dirac_decode.specs.Taking.{IsOfOpen, IsPopped, TakesContent, shows_decoded};
 
 use crate::step::Step;
 use dirac_common::{Cause, END_OF_SEQUENCE, Picture, Refusal, SEQUENCE_HEADER, Stop};
-use dirac_content::Opened;
+use dirac_content::{Opened, behind_parse_info, opened_by};
 use dirac_decode_picture::{DecodedPicture, DecodingRefs};
 use dirac_refs::{Delivery, MOST_REFERENCES, key};
-use dirac_sequence_header::{Sequence, read_sequence};
-use dirac_units::{PARSE_INFO_LENGTH, Payload, fields_are_read};
+use dirac_sequence_header::Sequence;
+use dirac_units::{Payload, fields_are_read};
 use std::alloc::Global;
 use std::marker::Model;
 
@@ -122,22 +121,11 @@ impl State {
         ensures { TakesContent result (header_step self.old self.old.opened payload) (length payload)
             self.old self.new }
     {
-        if let Some(opened) = &self.opened {
-            if is_same(payload.bytes(), opened.header.bytes()) {
-                return Ok(Step::On);
-            }
-            return Err(Stop::Refused(Refusal {
-                at: 0,
-                cause: Cause::SequenceChanged,
-            }));
-        }
-        match read_sequence(payload.bytes()) {
-            Err(refusal) => Err(Stop::Refused(behind_parse_info(refusal))),
-            Ok(sequence) => {
-                self.opened = Some(Opened {
-                    header: payload,
-                    sequence,
-                });
+        match opened_by(&self.opened, payload) {
+            Err(refusal) => Err(Stop::Refused(refusal)),
+            Ok(None) => Ok(Step::On),
+            Ok(Some(opened)) => {
+                self.opened = Some(opened);
                 self.first = None;
                 Ok(Step::On)
             }
@@ -222,23 +210,5 @@ fn first_or(first: Option<u32>, number: u32) -> u32
     match first {
         None => number,
         Some(first) => first,
-    }
-}
-
-/// Whether a repeated sequence header has the first one's payload.
-fn is_same(payload: &[u8], header: &[u8]) -> bool
-    ensures { result ≡ same_header payload.now header.now }
-{
-    payload.len() == header.len() && payload.starts_with(header)
-}
-
-/// A refusal in a payload, its place counted from the unit's first byte.
-fn behind_parse_info(refusal: Refusal) -> Refusal
-    requires { refusal.at < 2 ^ 63 }
-    ensures { result ≡ in_unit refusal }
-{
-    Refusal {
-        at: PARSE_INFO_LENGTH as u64 + refusal.at,
-        cause: refusal.cause,
     }
 }

@@ -3,18 +3,16 @@
 
 ghost use Rattle.std.specs.Prelude.{◌≡◌, ◌+◌, ◌<◌, ◌≤◌, ◌^◌, length, IfErr, IsTrue};
 ghost use Rattle.dirac_picture.specs.Grammar.{is_picture};
-ghost use Rattle.dirac_content.specs.StreamState.{stream_begun, header_step, in_unit, passed};
+ghost use Rattle.dirac_content.specs.StreamState.{stream_begun, header_step, passed};
 ghost use Rattle.dirac_content.specs.Stopped.{IfStopped};
 ghost use Rattle.dirac_edit.specs.Course.{IsTaken, picture_checked, state_of, unit_checked};
 
 use crate::listed::list_by_number;
-use crate::sequence::is_same;
 use dirac_common::{Cause, END_OF_SEQUENCE, Refusal, SEQUENCE_HEADER, Stop};
-use dirac_content::Opened;
+use dirac_content::{Opened, behind_parse_info, opened_by};
 use dirac_picture::read_picture;
 use dirac_refs::RefBuffer;
-use dirac_sequence_header::read_sequence;
-use dirac_units::{PARSE_INFO_LENGTH, Payload, fields_are_read};
+use dirac_units::{Payload, fields_are_read};
 use std::alloc::Global;
 use std::marker::Model;
 
@@ -82,22 +80,11 @@ impl Course {
         ensures taken { IsTaken result (state_of (header_step self.old self.old.opened payload)) self.new }
         ensures place_inside { IfErr result (λ e. IfStopped e (λ r. r.at ≤ 13 + length payload)) }
     {
-        if let Some(opened) = &self.opened {
-            if is_same(payload.bytes(), opened.header.bytes()) {
-                return Ok(());
-            }
-            return Err(Stop::Refused(Refusal {
-                at: 0,
-                cause: Cause::SequenceChanged,
-            }));
-        }
-        match read_sequence(payload.bytes()) {
-            Err(refusal) => Err(Stop::Refused(behind_parse_info(refusal))),
-            Ok(sequence) => {
-                self.opened = Some(Opened {
-                    header: payload,
-                    sequence,
-                });
+        match opened_by(&self.opened, payload) {
+            Err(refusal) => Err(Stop::Refused(refusal)),
+            Ok(None) => Ok(()),
+            Ok(Some(opened)) => {
+                self.opened = Some(opened);
                 Ok(())
             }
         }
@@ -124,16 +111,5 @@ impl Course {
                 Ok(())
             }
         }
-    }
-}
-
-/// A refusal in a payload, its place counted from the unit's first byte.
-fn behind_parse_info(refusal: Refusal) -> Refusal
-    requires { refusal.at < 2 ^ 63 }
-    ensures { result ≡ in_unit refusal }
-{
-    Refusal {
-        at: PARSE_INFO_LENGTH as u64 + refusal.at,
-        cause: refusal.cause,
     }
 }

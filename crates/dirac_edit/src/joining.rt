@@ -14,8 +14,9 @@ ghost use Rattle.dirac_edit.specs.Merged.{shift_onto, units_behind, way_onto};
 
 use crate::keys::{Keys, keys_of};
 use crate::numbers::{behind_number, number_in};
-use crate::sequence::{HeldPicture, HeldSequence, is_same};
+use crate::sequence::{HeldPicture, HeldSequence};
 use dirac_common::SEQUENCE_HEADER;
+use dirac_content::have_same_payload;
 use dirac_io::{Sink, Unwritten, put_all};
 use dirac_units::{PARSE_INFO_LENGTH, ParseInfo, put_end, put_unit, unit_length, write_info};
 use std::marker::Model;
@@ -83,7 +84,7 @@ impl<'a> Latest<'a> {
     {
         let by = u64::from(self.high) + 1 + u64::from(keys.below);
         let high = by + u64::from(keys.above);
-        if !is_same(header, self.header) || high > GREATEST_KEY {
+        if !have_same_payload(header, self.header) || high > GREATEST_KEY {
             return None;
         }
         Some(Merge {

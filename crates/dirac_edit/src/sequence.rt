@@ -1,5 +1,4 @@
 ghost use Rattle.std.specs.Prelude.{◌≡◌, ◌+◌, ◌<◌, ◌^◌, ◌++◌, [], ◌∷◌, OnErr, OnOk, length};
-ghost use Rattle.dirac_content.specs.StreamState.{is_same as same_header};
 
 use crate::units::HeldUnit;
 use dirac_common::NoMemory;
@@ -127,11 +126,4 @@ impl<'a> HeldSequence<'a> {
     {
         self.pictures.as_slice()
     }
-}
-
-/// Whether two headers have equal payloads.
-pub(crate) fn is_same(header: &[u8], former: &[u8]) -> bool
-    ensures { result ≡ same_header header.now former.now }
-{
-    header.len() == former.len() && header.starts_with(former)
 }
