@@ -1,5 +1,6 @@
 ghost use Rattle.std.specs.Prelude.{◌≡◌, ◌<◌, ◌≤◌, true};
 
+use dirac_refs::MOST_KEPT_SAMPLES;
 use dirac_sequence_header::Sequence;
 use dirac_slices::workers_for;
 
@@ -38,13 +39,9 @@ impl<'a, R, G> Crew<'a, R, G> {
 /// The most luma samples of a picture that is decoded ahead: all that are decoded together are held at once.
 const MOST_LUMA_SAMPLES_AHEAD: u64 = 8_388_608;
 
-/// Whether so many pictures of this sequence are several, and small enough to be held at once.
-pub(crate) fn are_several(pictures: usize, sequence: &Sequence) -> bool
-    ensures { result ≡ true → 1 < pictures }
-{
-    pictures >= 2
-        && u64::from(sequence.width) * u64::from(sequence.picture_height())
-            <= MOST_LUMA_SAMPLES_AHEAD
+/// How many luma samples a picture of this sequence has.
+fn luma_samples(sequence: &Sequence) -> u64 {
+    u64::from(sequence.width) * u64::from(sequence.picture_height())
 }
 
 /// Whether so many pictures of this sequence are sooner decoded by a worker each than by workers that share the rows of
@@ -52,5 +49,21 @@ pub(crate) fn are_several(pictures: usize, sequence: &Sequence) -> bool
 pub(crate) fn are_enough<R, G>(crew: &Crew<R, G>, pictures: usize, sequence: &Sequence) -> bool
     ensures { result ≡ true → 1 < pictures }
 {
-    pictures > crew.workers as usize / 2 && are_several(pictures, sequence)
+    pictures >= 2
+        && pictures > crew.workers as usize / 2
+        && luma_samples(sequence) <= MOST_LUMA_SAMPLES_AHEAD
+}
+
+/// Whether so many inter pictures of this sequence are decoded at once: where they are enough for a worker each, or
+/// where they are several whose references keep their half samples. Each picture whose rows workers share would hold
+/// those of all planes of both references at once, where they aren't kept.
+pub(crate) fn are_decoded_at_once<R, G>(
+    crew: &Crew<R, G>,
+    pictures: usize,
+    sequence: &Sequence,
+) -> bool
+    ensures { result ≡ true → 1 < pictures }
+{
+    are_enough(crew, pictures, sequence)
+        || pictures >= 2 && luma_samples(sequence) <= u64::from(MOST_KEPT_SAMPLES)
 }

@@ -11,7 +11,7 @@ ghost use Rattle.dirac_pardec.specs.Run.{CanAllBeDecoded};
 
 use crate::asked::Asked;
 use crate::by_rows::{decode_listed_by_rows, decode_reading_by_rows};
-use crate::crew::{Crew, are_several};
+use crate::crew::{Crew, are_decoded_at_once};
 use crate::front::{front_of, units_from};
 use crate::halves::keep_halves_by_rows;
 use dirac_bits::BitReader;
@@ -123,9 +123,9 @@ fn decode_ahead<R: Threads + Sync, G: RowGate>(
     DecodedAhead::try_new(alloc, unit.payload, unit.code, sequence, decoded)
 }
 
-/// Decodes these pictures side by side. Where there are at least two workers for each, these share its rows. Else each
-/// has one, and of the workers that are left one more reads the bands of each of the last pictures. The first picture
-/// comes last.
+/// Decodes these pictures side by side, each by as many workers as all have; of those that are left one more works on
+/// each of the last pictures. Workers of a picture share its rows; but where all have one, a second one only reads
+/// bands. The first picture comes last.
 fn decode_units<R: Threads + Sync, G: RowGate>(
     crew: &Crew<R, G>,
     alloc: Global,
@@ -139,14 +139,14 @@ fn decode_units<R: Threads + Sync, G: RowGate>(
 {
     let last = (units.len() - 1).min(63) as u32;
     let each = crew.each_of(last + 1);
-    let left = crew.workers.saturating_sub(last + 1);
+    let left = crew.workers.saturating_sub(each * (last + 1));
     let work = |row: u32| -> Result<Option<DecodedAhead>, NoMemory>
         requires { IsSync R.row × IsSync G.row × CanAllBeDecoded sequence.now refs.now × (row ≤ last)
             × (last < length units.now) × ((1 ≤ each) × (each ≤ 64)) }
         ensures { IfOk result (λ a. IfSome a (IsDecodedFrom refs.entry.now)) }
     {
-        let readers = if row < left { 2 } else { 1 };
-        let own = Crew::new(crew.rt, if each == 1 { readers } else { each }, crew.gate);
+        let workers = if row < left { each + 1 } else { each };
+        let own = Crew::new(crew.rt, workers.min(64), crew.gate);
         decode_ahead(
             &own,
             each == 1,
@@ -179,7 +179,7 @@ pub(crate) fn decode_run<R: Threads + Sync, G: RowGate>(
         return Ok(None);
     };
     let pictures = inter_units_to_reference(alloc, units)?;
-    if !are_several(pictures.len(), asked.sequence) {
+    if !are_decoded_at_once(crew, pictures.len(), asked.sequence) {
         return Ok(None);
     }
     let numbers = numbers_named(alloc, pictures.as_slice())?;

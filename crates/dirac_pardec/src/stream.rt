@@ -23,13 +23,13 @@ use std::thread::Threads;
 
 /// Decodes a whole stream, as `decode_stream`, by that many workers. From 2 to 15 workers units are read ahead, with
 /// twice as many pictures as there are workers, eight at most. Of these the intra pictures up to the first end unit are
-/// decoded at once, a worker each, where they are at least two, and more than half as many as there are workers. Inter
-/// pictures up to the next reference picture, that one too, are decoded at once where they are at least two: by a
-/// worker each, or where there are two or more for each by workers of its own, which read and rebuild it as
-/// `read_planes_rows` and `rebuild_rows` do. All other pictures, and all of more than 2^23 luma samples, are read and
-/// rebuilt so by all workers, and by a single worker as `decode_stream` does. Before inter pictures are rebuilt, the
-/// half samples of each picture that they refer to and that keeps none yet are made by a map whose rows are its three
-/// planes, unless these are too large to be kept.
+/// decoded at once, a worker each, and so are inter pictures up to the next reference picture, that one too, where they
+/// are at least two, more than half as many as there are workers, and of at most 2^23 luma samples. Inter pictures that
+/// are at least two, but no more than half as many, are decoded at once too where half samples of their size are kept:
+/// each is read and rebuilt by as many workers as all have, as `read_planes_rows` and `rebuild_rows` do. So are all
+/// other pictures, one after another by all workers, and by a single worker as `decode_stream` does. Before inter
+/// pictures are rebuilt, the half samples of each picture that they refer to and that keeps none yet are made by a map
+/// whose rows are its three planes, unless these are too large to be kept.
 pub fn decode_rows<R: Threads + Sync, S: Source, K: Sink, G: RowGate>(
     rt: &R,
     alloc: Global,
@@ -83,8 +83,8 @@ struct Finished<'a, S> {
 /// The most pictures that are read ahead.
 const MOST_PICTURES_AHEAD: u32 = 8;
 
-/// How many pictures are read ahead for so many workers: none where pictures are never decoded side by side, since one
-/// worker gains nothing by it, and for sixteen even eight pictures are too few.
+/// How many pictures are read ahead for so many workers. One worker gains nothing by it. For sixteen even eight pictures
+/// are too few for a worker each, and none are read ahead, though inter pictures could be decoded at once by several.
 fn pictures_ahead(workers: u32) -> u32 {
     if workers == 1 || workers >= 2 * MOST_PICTURES_AHEAD {
         return 0;

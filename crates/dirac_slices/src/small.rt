@@ -1,11 +1,13 @@
 //! How many threads a picture is worth; no answer depends on it.
 //!
 //! Each map of rows starts threads of its own, one fewer than it has workers, and so does the writing of samples. A
-//! picture has two maps: one that reads its subbands, and one that makes what its samples are made from. So with four
-//! workers nine threads are started for a picture. A small picture isn't read by a map, and has two workers at most:
-//! two threads are started for it where it is an inter picture, one where it is an intra picture, whose planes are the
-//! rows of one map. Where `dirac_pardec` decodes an inter picture, each of its references whose half samples aren't
-//! kept yet has a map of three rows before: two threads more, one for a small picture.
+//! picture has two maps: one that reads its subbands, and one that makes what its samples are made from. So where four
+//! workers share a picture, nine threads are started for an inter picture, and eight for an intra picture, whose second
+//! map has three rows. Where `dirac_pardec` decodes two inter pictures at once, each by two workers, three are started
+//! for each and one for both. A small picture isn't read by a map, and has two workers at most: two threads are started
+//! for it where it is an inter picture, one where it is an intra picture, whose planes are the rows of one map. Where
+//! `dirac_pardec` decodes an inter picture, each of its references whose half samples aren't kept yet has a map of
+//! three rows before: two threads more, one for a small picture.
 ghost use Rattle.std.specs.Prelude.{◌≡◌, ◌≤◌};
 ghost use Rattle.dirac_slices.specs.Small.{is_small_picture, shared_by};
 

@@ -18,7 +18,34 @@ const STREAM: [u8; 95] = [
     0x80, 0x80, 0x42, 0x42, 0x43, 0x44, 0x10, 0x00, 0x00, 0x00, 0x00, 0x00, 0x00, 0x00, 0x20,
 ];
 
-// Decodes a stream by two workers, as `shares_by` does.
+// Decodes a stream by so many workers with this row held in each call, compares the tally and what comes out, and gives
+// the gate.
+fn held<R: Abort + Threads + Sync>(
+    rt: &R,
+    alloc: Global,
+    workers: u32,
+    stream: &[u8],
+    shown: &[u8],
+    pictures: u64,
+    row: u32,
+) -> Result<HoldsEachCall, NoMemory> {
+    assert!(rt; 2 <= workers && workers <= 64);
+    let gate = HoldsEachCall::new(row);
+    let bytes = Vec::from_slice(alloc, stream)?;
+    let mut source = MemSource::new(bytes, 4096, Vec::new(alloc));
+    let mut out = MemSink::new(alloc, 4096, Vec::new(alloc));
+    let ended = decode_rows(rt, alloc, &mut source, &mut out, workers, &gate);
+    let tally = Tally {
+        pictures,
+        references: 2,
+    };
+    assert_eq!(rt; ended, Decoded::Done(tally));
+    assert_eq!(rt; out.taken(), shown);
+    Ok(gate)
+}
+
+// Decodes a stream by two workers, once with row 0 held in each call and once with row 1, and compares the tally, what
+// comes out, and in how many calls both rows came.
 fn shares<R: Abort + Threads + Sync>(
     rt: &R,
     alloc: Global,
@@ -27,34 +54,9 @@ fn shares<R: Abort + Threads + Sync>(
     pictures: u64,
     calls: u64,
 ) -> Result<(), NoMemory> {
-    shares_by(rt, alloc, 2, stream, shown, pictures, calls)
-}
-
-// Decodes a stream by so many workers, once with row 0 held in each call and once with row 1, and compares the tally,
-// what comes out, and in how many calls both rows came.
-fn shares_by<R: Abort + Threads + Sync>(
-    rt: &R,
-    alloc: Global,
-    workers: u32,
-    stream: &[u8],
-    shown: &[u8],
-    pictures: u64,
-    calls: u64,
-) -> Result<(), NoMemory> {
-    assert!(rt; 2 <= workers && workers <= 64);
-    for held in [0, 1] {
-        let gate = HoldsEachCall::new(held);
-        let bytes = Vec::from_slice(alloc, stream)?;
-        let mut source = MemSource::new(bytes, 4096, Vec::new(alloc));
-        let mut out = MemSink::new(alloc, 4096, Vec::new(alloc));
-        let ended = decode_rows(rt, alloc, &mut source, &mut out, workers, &gate);
-        let tally = Tally {
-            pictures,
-            references: 2,
-        };
-        assert_eq!(rt; ended, Decoded::Done(tally));
-        assert_eq!(rt; out.taken(), shown);
-        assert_eq!(rt; gate.calls(), Some(calls), "row {held} held");
+    for row in [0, 1] {
+        let gate = held(rt, alloc, 2, stream, shown, pictures, row)?;
+        assert_eq!(rt; gate.calls(), Some(calls), "row {row} held");
     }
     Ok(())
 }
@@ -108,14 +110,20 @@ fn two_workers_decode_what_refers_to_whole_samples(rt: HostRuntime) -> Result<()
     shares(&rt, alloc, made.stream.taken(), made.shown.taken(), 4, 7)
 }
 
-// The same by four workers: the two pictures between have seven calls, the one in which both are decoded, and three of
-// each by two workers of its own, which read its subbands, make what its slices are made of, and make its slices.
+// The same by four workers: the first two pictures have three calls each, with 12, 3 and 4 rows and with 12, 9 and 4.
+// The two between have one in which both are decoded, and each has three, with 12, 9 and 2 rows, since two workers of
+// its own read its subbands, make what its slices are made of, and make its slices. All but the rows 0 and 1 are 66.
 #[test]
 fn four_workers_share_the_rows_of_two_pictures(rt: HostRuntime) -> Result<(), NoMemory> {
     let alloc = rt.alloc();
     let mut settings = sized(320, 208);
     settings.precision = 0;
     let made = encoded_many(&rt, alloc, &settings, 4, &OpenGate)?;
-    let shown = made.shown.taken();
-    shares_by(&rt, alloc, 4, made.stream.taken(), shown, 4, 13)
+    for row in [0, 1] {
+        let (stream, shown) = (made.stream.taken(), made.shown.taken());
+        let gate = held(&rt, alloc, 4, stream, shown, 4, row)?;
+        assert_eq!(rt; gate.calls(), Some(13), "row {row} held");
+        assert_eq!(rt; gate.others(), 66, "row {row} held");
+    }
+    Ok(())
 }

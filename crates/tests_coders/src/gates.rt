@@ -97,12 +97,13 @@ impl RowGate for HoldsRows {
     }
 }
 
-/// A gate that holds one of the rows 0 and 1 in each call until the other one was entered in that call, or the turns
-/// run out.
+/// A gate that holds one of the rows 0 and 1 in each call until the other one was entered as often, or the turns run
+/// out: where calls come one after the other, in that call.
 #[derive(Drop)]
 pub struct HoldsEachCall {
     held: u32,
     entered: [AtomicU64; 2],
+    others: AtomicU64,
     ran_out: AtomicBool,
 }
 
@@ -112,8 +113,14 @@ impl HoldsEachCall {
         HoldsEachCall {
             held,
             entered: [AtomicU64::new(0), AtomicU64::new(0)],
+            others: AtomicU64::new(0),
             ran_out: AtomicBool::new(false),
         }
+    }
+
+    /// How often a row that isn't 0 or 1 was entered.
+    pub fn others(&self) -> u64 {
+        self.others.load(SeqCst)
     }
 
     /// In how many calls both rows were entered, where none was held until the turns ran out.
@@ -134,7 +141,10 @@ impl RowGate for HoldsEachCall {
         let (own, other) = match row {
             0 => (&self.entered[0], &self.entered[1]),
             1 => (&self.entered[1], &self.entered[0]),
-            _ => return,
+            _ => {
+                self.others.fetch_add(1, SeqCst);
+                return;
+            }
         };
         // each call enters each row once, so the number of a row's entries is that of its calls
         let call = own.fetch_add(1, SeqCst);
