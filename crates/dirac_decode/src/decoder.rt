@@ -71,6 +71,14 @@ impl Decoder {
         }
     }
 
+    /// Takes back a picture that was given and is needed no more: where one thread decodes, the next picture is made in
+    /// its planes if they have the same size, so none are made and filled with zeros. Nothing else depends on it.
+    pub fn take_back(&mut self, picture: Picture)
+        ensures { self.new ≡ self.old }
+    {
+        self.state.take_back(picture);
+    }
+
     /// The next picture of the stream, in order of delivery, as soon as it may leave. Pictures that wait
     /// come before the end or the first fault is answered. Both are answered again by each later call,
     /// and after `ReadFault` and `NoMemory` each later call answers `Stopped`; none of them reads.

@@ -84,6 +84,13 @@ impl State {
         self.waits.pop()
     }
 
+    /// Takes back a picture that left and is needed no more, to make the next one in its planes.
+    pub(crate) fn take_back(&mut self, picture: Picture)
+        ensures { self.new ≡ self.old }
+    {
+        self.refs.give_room(picture);
+    }
+
     /// Takes the content of a unit with this parse code.
     pub(crate) fn take<
         F: Fn(Global, &[u8], u8, &Sequence, &mut DecodingRefs) -> Result<DecodedPicture, Stop>,

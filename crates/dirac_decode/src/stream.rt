@@ -89,7 +89,7 @@ fn write_pictures<
     'pictures: loop {
         match decoder.next_picture_by(decode, source) {
             Next::Shown(picture) => match put_picture(out, &picture, row) {
-                Put::All => {}
+                Put::All => decoder.take_back(picture),
                 Put::Failed => return Decoded::WriteFault,
                 Put::NoMemory => return Decoded::NoMemory,
             },

@@ -23,6 +23,8 @@ pub struct DecodingRefs {
     refs: RefBuffer,
     /// The next one last; none in place of one that is refused.
     ahead: Option<Vec<Option<DecodedAhead>>>,
+    /// A picture that is needed no more, to be written over.
+    room: Option<Picture>,
 }
 
 impl Model for DecodingRefs {
@@ -47,6 +49,7 @@ impl DecodingRefs {
         DecodingRefs {
             refs: RefBuffer::new(),
             ahead: None,
+            room: None,
         }
     }
 
@@ -55,6 +58,21 @@ impl DecodingRefs {
         ensures { result.now ≡ self.now }
     {
         &self.refs
+    }
+
+    /// Keeps a picture that is needed no more, in place of the one that was kept before, so that the next one is made in
+    /// its planes.
+    pub fn give_room(&mut self, picture: Picture)
+        ensures { self.new ≡ self.old }
+    {
+        self.room = Some(picture);
+    }
+
+    /// Takes the picture that is needed no more, where one is kept.
+    pub fn take_room(&mut self) -> Option<Picture>
+        ensures { self.new ≡ self.old }
+    {
+        self.room.take()
     }
 
     /// How many pictures are listed.

@@ -6,15 +6,16 @@ ghost use Rattle.dirac_decode_picture.specs.Payload.{CanBeDecoded, DecodesPayloa
 
 use crate::decoded_picture::DecodedPicture;
 use crate::decoding_refs::DecodingRefs;
-use dirac_common::{NoMemory, Stop};
+use dirac_common::{NoMemory, Picture, Stop};
 use dirac_picture::{CodedPicture, read_picture};
-use dirac_rebuild::rebuild;
+use dirac_rebuild::rebuild_in;
 use dirac_refs::{RefBuffer, reference_of};
 use dirac_sequence_header::Sequence;
 use std::alloc::Global;
 
 /// Reads a picture from the payload of its unit, plane after plane, and rebuilds it likewise, on one thread. The half
-/// samples of the pictures that it refers to are kept.
+/// samples of the pictures that it refers to are kept. Where a picture is kept that is needed no more, it is written
+/// over.
 pub fn decode_picture(
     alloc: Global,
     payload: &[u8],
@@ -27,16 +28,19 @@ pub fn decode_picture(
 {
     let coded = read_picture(alloc, payload, code, sequence, refs.list())?;
     refs.keep_halves(alloc, &coded.header, coded.vector_precision());
-    let decoded = rebuild_picture(alloc, &coded, sequence, refs.list())?;
+    let room = refs.take_room();
+    let decoded = rebuild_picture(alloc, &coded, sequence, refs.list(), room)?;
     Ok(decoded)
 }
 
-/// Rebuilds a picture that was read, on one thread. Half samples that aren't kept are made for it alone.
+/// Rebuilds a picture that was read, on one thread, in the planes of the one that is given where they have its size.
+/// Half samples that aren't kept are made for it alone.
 pub fn rebuild_picture(
     alloc: Global,
     coded: &CodedPicture,
     sequence: &Sequence,
     refs: &RefBuffer,
+    room: Option<Picture>,
 ) -> Result<DecodedPicture, NoMemory>
     requires sequence { IsSequence sequence.now }
     requires fits { FitsSequence coded.now.code sequence.now coded.now }
@@ -44,7 +48,7 @@ pub fn rebuild_picture(
     ensures stands { IfOk result (StandsFor coded.now sequence.now refs.now) }
     ensures fits { IfOk result (λ d. IsPicture sequence.now d.picture) }
 {
-    let picture = rebuild(alloc, coded, sequence, refs)?;
+    let picture = rebuild_in(alloc, coded, sequence, refs, room)?;
     let reference = reference_of(alloc, coded.code, &picture)?;
     Ok(DecodedPicture {
         code: coded.code,

@@ -28,6 +28,8 @@ pub(crate) fn decode_at_hand<R: Threads + Sync, G: RowGate>(
     if crew.workers == 1 {
         return decode_picture(alloc, asked.payload, asked.code, asked.sequence, refs);
     }
+    // workers make room of their own
+    let _ = refs.take_room();
     if is_intra(asked.code) {
         if let Some(decoded) = lot.take_intra(crew, alloc, asked) {
             return Ok(decoded);

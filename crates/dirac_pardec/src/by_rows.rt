@@ -138,6 +138,6 @@ pub(crate) fn decode_reading_by_rows<R: Threads + Sync, G: RowGate>(
         refs.now }
 {
     let coded = read_by_rows(crew, alloc, asked, refs)?;
-    let decoded = rebuild_picture(alloc, &coded, asked.sequence, refs)?;
+    let decoded = rebuild_picture(alloc, &coded, asked.sequence, refs, None)?;
     Ok(decoded)
 }

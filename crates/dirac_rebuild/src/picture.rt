@@ -20,23 +20,48 @@ use dirac_obmc::{Component, column_weights};
 use dirac_picture::{CodedMotion, CodedPicture, CodedResidual};
 use dirac_refs::{RefBuffer, Reference};
 use dirac_sequence_header::Sequence;
-use dirac_synthesis::{clipped_by_strips, clipped_sum_by_rows, clipped_sum_by_strips};
+use dirac_synthesis::{clipped_in, clipped_sum_by_rows, clipped_sum_by_strips};
 use dirac_upconvert::UpPlane;
 use std::alloc::Global;
 
-/// The samples of a plane of an intra picture: its residual, clipped.
+/// Planes to be written over, where there are some.
+#[derive(Drop)]
+struct Rooms {
+    y: Option<Plane>,
+    u: Option<Plane>,
+    v: Option<Plane>,
+}
+
+/// The planes of a picture, to be written over.
+fn rooms_of(picture: Option<Picture>) -> Rooms {
+    match picture {
+        None => Rooms {
+            y: None,
+            u: None,
+            v: None,
+        },
+        Some(picture) => Rooms {
+            y: Some(picture.y),
+            u: Some(picture.u),
+            v: Some(picture.v),
+        },
+    }
+}
+
+/// The samples of a plane of an intra picture: its residual, clipped; where they can in the room that is given.
 fn intra_samples(
     alloc: Global,
     sequence: &Sequence,
     component: Component,
     residual: &Option<CodedResidual>,
+    room: Option<Plane>,
 ) -> Result<Plane, NoMemory>
     requires sequence { IsSequence sequence.now }
     requires fits { IfSome residual.now (IsResidual sequence.now) }
     ensures value { IfOk result (λ t. t ≡ content.intra_samples sequence.now residual.now component) }
 {
     let residual = unfinished_of(alloc, sequence, Kind::Intra, component, residual)?;
-    clipped_by_strips(alloc, &residual)
+    clipped_in(alloc, &residual, room)
 }
 
 /// The samples of a plane of an inter picture, from what is predicted for them, by rows: each with its residual,
@@ -60,7 +85,7 @@ pub fn predicted_samples(
 }
 
 /// The samples of a plane of an inter picture, from planes of its references that are upconverted already: its residual
-/// and what they predict, clipped. Some rows are predicted at a time.
+/// and what they predict, clipped; where they can in the room that is given. Some rows are predicted at a time.
 fn samples_with(
     alloc: Global,
     moved: &Moved<'_>,
@@ -68,6 +93,7 @@ fn samples_with(
     first: &UpPlane,
     second: Option<&UpPlane>,
     component: Component,
+    room: Option<Plane>,
 ) -> Result<Plane, NoMemory>
     requires moved { IsMoved moved.now }
     requires fits { IfSome residual.now (IsResidual moved.now.sequence.now) }
@@ -89,10 +115,11 @@ fn samples_with(
     );
     let weights = column_weights(alloc, &motion)?;
     let residual = unfinished_of(alloc, moved.sequence, Kind::Inter, component, residual)?;
-    clipped_sum_by_rows(alloc, &residual, &MotionRows { motion, weights })
+    clipped_sum_by_rows(alloc, &residual, &MotionRows { motion, weights }, room)
 }
 
-/// The samples of a plane of an inter picture: its residual and what its references predict, clipped.
+/// The samples of a plane of an inter picture: its residual and what its references predict, clipped; where they can in
+/// the room that is given.
 fn inter_samples(
     alloc: Global,
     moved: &Moved<'_>,
@@ -100,6 +127,7 @@ fn inter_samples(
     first: &Reference,
     second: Option<&Reference>,
     component: Component,
+    room: Option<Plane>,
 ) -> Result<Plane, NoMemory>
     requires moved { IsMoved moved.now }
     requires fits { IfSome residual.now (IsResidual moved.now.sequence.now) }
@@ -112,22 +140,31 @@ fn inter_samples(
     let precision = moved.motion.prediction.precision;
     let first = up_of_reference(alloc, moved.sequence, first, component, precision)?;
     match second {
-        None => samples_with(alloc, moved, residual, first.plane(), None, component),
+        None => samples_with(alloc, moved, residual, first.plane(), None, component, room),
         Some(second) => {
             let second = up_of_reference(alloc, moved.sequence, second, component, precision)?;
             let second = Some(second.plane());
-            samples_with(alloc, moved, residual, first.plane(), second, component)
+            samples_with(
+                alloc,
+                moved,
+                residual,
+                first.plane(),
+                second,
+                component,
+                room,
+            )
         }
     }
 }
 
-/// An inter picture, from its references.
+/// An inter picture, from its references, where it can in the planes that are given.
 fn rebuild_from(
     alloc: Global,
     moved: &Moved<'_>,
     coded: &CodedPicture,
     first: &Reference,
     second: Option<&Reference>,
+    room: Rooms,
 ) -> Result<Picture, NoMemory>
     requires moved { IsMoved moved.now }
     requires fits { IfSome coded.now.residual (IsResidual moved.now.sequence.now) }
@@ -138,9 +175,9 @@ fn rebuild_from(
         (option_copied second.entry) coded.now.header moved.now.motion.now coded.now.residual) }
 {
     let residual = &coded.residual;
-    let y = inter_samples(alloc, moved, residual, first, second, Component::Y)?;
-    let u = inter_samples(alloc, moved, residual, first, second, Component::U)?;
-    let v = inter_samples(alloc, moved, residual, first, second, Component::V)?;
+    let y = inter_samples(alloc, moved, residual, first, second, Component::Y, room.y)?;
+    let u = inter_samples(alloc, moved, residual, first, second, Component::U, room.u)?;
+    let v = inter_samples(alloc, moved, residual, first, second, Component::V, room.v)?;
     let number = coded.header.number;
     Ok(Picture { number, y, u, v })
 }
@@ -152,6 +189,7 @@ fn rebuild_inter(
     motion: &CodedMotion,
     sequence: &Sequence,
     refs: &RefBuffer,
+    room: Rooms,
 ) -> Result<Picture, NoMemory>
     requires sequence { IsSequence sequence.now }
     requires inter { coded.now.motion ≡ Some motion.now }
@@ -169,23 +207,24 @@ fn rebuild_inter(
     let second = named_reference(refs, coded.header.ref2);
     match named_reference(refs, coded.header.ref1) {
         None => unreachable!(),
-        Some(first) => rebuild_from(alloc, &moved, coded, first, second),
+        Some(first) => rebuild_from(alloc, &moved, coded, first, second, room),
     }
 }
 
-/// The planes of an intra picture.
+/// The planes of an intra picture, where they can be in those that are given.
 fn intra_planes(
     alloc: Global,
     coded: &CodedPicture,
     sequence: &Sequence,
+    room: Rooms,
 ) -> Result<Picture, NoMemory>
     requires sequence { IsSequence sequence.now }
     requires fits { IfSome coded.now.residual (IsResidual sequence.now) }
     ensures { IfOk result (λ p. p ≡ intra_picture sequence.now coded.now.header coded.now.residual) }
 {
-    let y = intra_samples(alloc, sequence, Component::Y, &coded.residual)?;
-    let u = intra_samples(alloc, sequence, Component::U, &coded.residual)?;
-    let v = intra_samples(alloc, sequence, Component::V, &coded.residual)?;
+    let y = intra_samples(alloc, sequence, Component::Y, &coded.residual, room.y)?;
+    let u = intra_samples(alloc, sequence, Component::U, &coded.residual, room.u)?;
+    let v = intra_samples(alloc, sequence, Component::V, &coded.residual, room.v)?;
     let number = coded.header.number;
     Ok(Picture { number, y, u, v })
 }
@@ -196,13 +235,14 @@ fn rebuild_planes(
     coded: &CodedPicture,
     sequence: &Sequence,
     refs: &RefBuffer,
+    room: Rooms,
 ) -> Result<Picture, NoMemory>
     requires { CanBeRebuilt coded.now sequence.now refs.now }
     ensures { IfOk result (λ p. p ≡ rebuilt sequence.now refs.now coded.now) }
 {
     match &coded.motion {
-        None => intra_planes(alloc, coded, sequence),
-        Some(motion) => rebuild_inter(alloc, coded, motion, sequence, refs),
+        None => intra_planes(alloc, coded, sequence, room),
+        Some(motion) => rebuild_inter(alloc, coded, motion, sequence, refs, room),
     }
 }
 
@@ -220,6 +260,24 @@ pub fn rebuild(
     ensures value { IfOk result (λ p. p ≡ rebuilt sequence.now refs.now coded.now) }
     ensures fits { IfOk result (IsPicture sequence.now) }
 {
-    let picture = rebuild_planes(alloc, coded, sequence, refs)?;
+    rebuild_in(alloc, coded, sequence, refs, None)
+}
+
+/// The picture that `rebuild` gives, where it can in the planes of the one that is given, whatever these hold: planes of
+/// the same size are written over, and no new ones are made and filled with zeros first.
+pub fn rebuild_in(
+    alloc: Global,
+    coded: &CodedPicture,
+    sequence: &Sequence,
+    refs: &RefBuffer,
+    room: Option<Picture>,
+) -> Result<Picture, NoMemory>
+    requires sequence { IsSequence sequence.now }
+    requires fits { FitsSequence coded.now.code sequence.now coded.now }
+    requires refs { AreReferences sequence.now refs.now coded.now.header }
+    ensures value { IfOk result (λ p. p ≡ rebuilt sequence.now refs.now coded.now) }
+    ensures fits { IfOk result (IsPicture sequence.now) }
+{
+    let picture = rebuild_planes(alloc, coded, sequence, refs, rooms_of(room))?;
     Ok(picture)
 }

@@ -8,6 +8,7 @@ ghost use Rattle.dirac_synthesis.specs.Zeros.{zeros};
 
 use crate::clip::{clip_narrow_sums, clip_narrow_values, clipped, clipped_sum};
 use crate::last::{LastLevel, lines_of};
+use crate::room::plane_room;
 use crate::unfinished::{Extent, Part, Unfinished};
 use dirac_common::{LARGEST_TABLE_SIDE, NoMemory, Plane};
 use dirac_lift::LinesAtWork;
@@ -62,8 +63,13 @@ fn clip_rows(
     }
 }
 
-/// The samples of a plane whose last level waits.
-fn clip_level(alloc: Global, level: &LastLevel<'_>, others: Others) -> Result<Plane, NoMemory>
+/// The samples of a plane whose last level waits, in the room that is given where it has the plane's size.
+fn clip_level(
+    alloc: Global,
+    level: &LastLevel<'_>,
+    others: Others,
+    room: Option<Plane>,
+) -> Result<Plane, NoMemory>
     requires level { IsLastLevel level.now }
     requires across { level.now.width ≤ LARGEST_TABLE_SIDE }
     requires down { level.now.height ≤ LARGEST_TABLE_SIDE }
@@ -74,7 +80,7 @@ fn clip_level(alloc: Global, level: &LastLevel<'_>, others: Others) -> Result<Pl
     let mut work = vec![in alloc; 0i32; across]?;
     let mut line = vec![in alloc; 0i32; across]?;
     let mut lines = lines_of(alloc, level)?;
-    let mut plane = Plane::try_new(alloc, level.width, level.height, 0)?;
+    let mut plane = plane_room(alloc, room, level.width, level.height)?;
     clip_rows(
         level,
         &mut lines,
@@ -99,8 +105,14 @@ fn clip_predicted(alloc: Global, extent: Extent, predicted: &[i32]) -> Result<Pl
     Ok(plane)
 }
 
-/// The samples of a plane of whose residual something is made.
-fn clip_part(alloc: Global, part: &Part<'_>, others: Others) -> Result<Plane, NoMemory>
+/// The samples of a plane of whose residual something is made, row by row in the room that is given where it has the
+/// plane's size.
+fn clip_part(
+    alloc: Global,
+    part: &Part<'_>,
+    others: Others,
+    room: Option<Plane>,
+) -> Result<Plane, NoMemory>
     requires part { IsUnfinishedPart part.now }
     requires others { AreAsMany others ((part_table part.now).width * (part_table part.now).height) }
     ensures { IfOk result (λ plane. plane ≡ clipped_table (with_others others.entry (part_table part.now))) }
@@ -114,7 +126,7 @@ fn clip_part(alloc: Global, part: &Part<'_>, others: Others) -> Result<Plane, No
             Others::Nothing => clipped(alloc, residual),
             Others::Predicted(values) => clipped_sum(alloc, residual, values),
         },
-        Part::Lines(level) => clip_level(alloc, level, others),
+        Part::Lines(level) => clip_level(alloc, level, others, room),
     }
 }
 
@@ -122,7 +134,18 @@ fn clip_part(alloc: Global, part: &Part<'_>, others: Others) -> Result<Plane, No
 pub fn clipped_by_strips(alloc: Global, values: &Unfinished<'_>) -> Result<Plane, NoMemory>
     ensures { IfOk result (λ plane. plane ≡ clipped_table values.now) }
 {
-    clip_part(alloc, values.part(), Others::Nothing)
+    clipped_in(alloc, values, None)
+}
+
+/// The plane that `clipped_by_strips` gives, where it can in this room, whatever that holds.
+pub fn clipped_in(
+    alloc: Global,
+    values: &Unfinished<'_>,
+    room: Option<Plane>,
+) -> Result<Plane, NoMemory>
+    ensures { IfOk result (λ plane. plane ≡ clipped_table values.now) }
+{
+    clip_part(alloc, values.part(), Others::Nothing, room)
 }
 
 /// The plane whose samples are the values of a residual plus their predictions, which stand by rows, each sum
@@ -135,7 +158,7 @@ pub fn clipped_sum_by_strips(
     requires { length predicted.now ≡ residual.now.width * residual.now.height }
     ensures { IfOk result (λ plane. plane ≡ clipped_table (with_prediction residual.now predicted.now)) }
 {
-    clip_part(alloc, residual.part(), Others::Predicted(predicted))
+    clip_part(alloc, residual.part(), Others::Predicted(predicted), None)
 }
 
 /// The samples of rows `from` to `to - 1` of a plane: the values of its residual there plus their predictions, which

@@ -12,6 +12,7 @@ ghost use Rattle.dirac_synthesis.specs.Zeros.{zeros};
 use crate::clip::{clip_narrow_sums, clip_narrow_values, clipped_sum};
 use crate::held::Residual;
 use crate::last::{LastLevel, lines_of};
+use crate::room::plane_room;
 use crate::unfinished::{Extent, Part, Unfinished};
 use dirac_common::{LARGEST_TABLE_SIDE, Narrow, NoMemory, Plane};
 use dirac_lift::LinesAtWork;
@@ -119,11 +120,12 @@ fn sum_rows<P: PredictsRows>(
     Ok(())
 }
 
-/// The samples of a plane whose last level waits.
+/// The samples of a plane whose last level waits, in the room that is given where it has the plane's size.
 fn summed_level<P: PredictsRows>(
     alloc: Global,
     level: &LastLevel<'_>,
     predictions: &P,
+    room: Option<Plane>,
 ) -> Result<Plane, NoMemory>
     requires level { IsLastLevel level.now }
     requires across { level.now.width ≤ LARGEST_TABLE_SIDE }
@@ -137,7 +139,7 @@ fn summed_level<P: PredictsRows>(
     let mut work = vec![in alloc; 0i32; across]?;
     let mut line = vec![in alloc; 0i32; across]?;
     let mut lines = lines_of(alloc, level)?;
-    let mut plane = Plane::try_new(alloc, level.width, level.height, 0)?;
+    let mut plane = plane_room(alloc, room, level.width, level.height)?;
     sum_rows(
         alloc,
         level,
@@ -172,11 +174,12 @@ fn clip_rows<P: PredictsRows>(
     Ok(())
 }
 
-/// The samples of a plane whose residual is 0.
+/// The samples of a plane whose residual is 0, in the room that is given where it has the plane's size.
 fn clipped_predictions<P: PredictsRows>(
     alloc: Global,
     extent: Extent,
     predictions: &P,
+    room: Option<Plane>,
 ) -> Result<Plane, NoMemory>
     requires across { (1 ≤ extent.width) × (extent.width ≤ LARGEST_TABLE_SIDE) }
     requires down { (1 ≤ extent.height) × (extent.height ≤ LARGEST_TABLE_SIDE) }
@@ -185,7 +188,7 @@ fn clipped_predictions<P: PredictsRows>(
     ensures { IfOk result (λ plane. plane ≡ clipped_table (with_prediction (zeros extent.width extent.height)
         (P.predicted predictions.now).values)) }
 {
-    let mut plane = Plane::try_new(alloc, extent.width, extent.height, 0)?;
+    let mut plane = plane_room(alloc, room, extent.width, extent.height)?;
     clip_rows(alloc, predictions, &mut plane)?;
     Ok(plane)
 }
@@ -210,11 +213,12 @@ fn summed_whole<P: PredictsRows>(
 }
 
 /// The plane whose samples are the values of a residual plus what is predicted for them, each sum clipped to -128 to
-/// 127 (picture decoding, Dirac specification).
+/// 127 (picture decoding, Dirac specification); where it can in the room that is given, whatever that holds.
 pub fn clipped_sum_by_rows<P: PredictsRows>(
     alloc: Global,
     residual: &Unfinished<'_>,
     predictions: &P,
+    room: Option<Plane>,
 ) -> Result<Plane, NoMemory>
     requires lawful { P.lawful predictions.now }
     requires size { IsOfSize residual.now.width residual.now.height (P.predicted predictions.now) }
@@ -222,8 +226,8 @@ pub fn clipped_sum_by_rows<P: PredictsRows>(
         (P.predicted predictions.now).values)) }
 {
     match residual.part() {
-        Part::Zeros(extent) => clipped_predictions(alloc, *extent, predictions),
+        Part::Zeros(extent) => clipped_predictions(alloc, *extent, predictions, room),
         Part::Whole(whole) => summed_whole(alloc, whole, predictions),
-        Part::Lines(level) => summed_level(alloc, level, predictions),
+        Part::Lines(level) => summed_level(alloc, level, predictions, room),
     }
 }

@@ -18,19 +18,20 @@ next_picture_by-requires-clause-no_overflow g c =
     below_on (c.pictures.decoder.units.unit_place.at + length c.pictures.decoder.units.ahead + g.S.Source.left c.pictures.source) (g.S.Source.left c.args.source.now) (2 ^ 63) c.pictures.invariant.room (g.met.S.Source.left_fits c.args.source.now)
 
 pub pictures-smaller : goal.pictures-smaller
-pictures-smaller g c = fewer_left c.pictures.decoder.given c.next_picture_by.new.self.given c.in-Shown.ensures.gives.1 c.in-Shown.ensures.fits
+pictures-smaller g c = rw c.take_back.ensures (fewer_left c.pictures.decoder.given c.next_picture_by.new.self.given c.in-Shown.ensures.gives.1 c.in-Shown.ensures.fits)
 
 pub pictures-preserved : goal.pictures-preserved
 pictures-preserved g c =
     let so = c.pictures.invariant in
     let after = c.in-Shown.ensures in
-    record {
+    rw c.take_back.ensures
+    (record {
       underway = underway_more c.pictures.decoder c.next_picture_by.new.self c.in-Shown.picture (g.S.Source.held c.args.source.now) (g.S.Source.held c.pictures.source) (g.S.Source.held c.next_picture_by.new.source) (g.K.Sink.taken c.args.out.now) (g.K.Sink.taken c.pictures.out) (g.K.Sink.taken c.put_picture.new.out)
           so.underway after.whole after.none_ahead after.gives (c.in-All.ensures.all refl);
       room = le_on (c.next_picture_by.new.self.units.unit_place.at + length c.next_picture_by.new.self.units.ahead + g.S.Source.left c.next_picture_by.new.source) (c.pictures.decoder.units.unit_place.at + length c.pictures.decoder.units.ahead + g.S.Source.left c.pictures.source) (g.S.Source.left c.args.source.now) after.no_overflow so.room;
       reads = le_on (g.S.Source.faults c.args.source.now) (g.S.Source.faults c.pictures.source) (g.S.Source.faults c.next_picture_by.new.source) so.reads after.count;
       writes = le_on (g.K.Sink.faults c.args.out.now) (g.K.Sink.faults c.pictures.out) (g.K.Sink.faults c.put_picture.new.out) so.writes c.in-All.ensures.count;
-    }
+    })
 
 pub returns-in-Failed : goal.returns-in-Failed
 returns-in-Failed g c =

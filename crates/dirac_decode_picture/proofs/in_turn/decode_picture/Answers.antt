@@ -14,5 +14,5 @@ pub rebuild_picture-requires-clause-refs : goal.rebuild_picture-requires-clause-
 rebuild_picture-requires-clause-refs c =
     let header = c.in_ok-coded.coded.header in
     let there = subst (λ (refs : List Picture). IsTrue (are_listed refs header)) c.list.ensures c.in_ok-coded.ensures.listed in
-    subst (λ (refs : List Picture). AreReferences c.args.sequence.now refs header) (sym (c.list-2.ensures ∙ c.keep_halves.ensures))
+    subst (λ (refs : List Picture). AreReferences c.args.sequence.now refs header) (sym (c.list-2.ensures ∙ (c.take_room-room.ensures ∙ c.keep_halves.ensures)))
     (references_fit c.args.sequence.now c.args.refs.now header there c.requires.listed)
