@@ -28,7 +28,7 @@ pub(crate) fn decode_at_hand<R: Threads + Sync, G: RowGate>(
     if crew.workers == 1 {
         return decode_picture(alloc, asked.payload, asked.code, asked.sequence, refs);
     }
-    // workers make room of their own
+    // dropped before workers begin: what they make stands in room of its own
     let _ = refs.take_room();
     if is_intra(asked.code) {
         if let Some(decoded) = lot.take_intra(crew, alloc, asked) {

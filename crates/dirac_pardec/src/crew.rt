@@ -55,8 +55,8 @@ pub(crate) fn are_enough<R, G>(crew: &Crew<R, G>, pictures: usize, sequence: &Se
 }
 
 /// Whether so many inter pictures of this sequence are decoded at once: where they are enough for a worker each, or
-/// where they are several whose references keep their half samples. Each picture whose rows workers share would hold
-/// those of all planes of both references at once, where they aren't kept.
+/// where they are several with planes small enough for half samples to be kept. Where these aren't, each picture whose
+/// rows workers share would hold those of all planes of both references at once.
 pub(crate) fn are_decoded_at_once<R, G>(
     crew: &Crew<R, G>,
     pictures: usize,
