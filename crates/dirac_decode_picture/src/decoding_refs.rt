@@ -17,7 +17,7 @@ use std::alloc::Global;
 use std::marker::Model;
 
 /// The reference pictures of a sequence, as a decoder keeps them: with pictures that were decoded from them before they
-/// are asked for.
+/// are asked for, and one that is needed no more, of which the value says nothing.
 #[derive(Drop)]
 pub struct DecodingRefs {
     refs: RefBuffer,
@@ -60,7 +60,7 @@ impl DecodingRefs {
         &self.refs
     }
 
-    /// Keeps a picture that is needed no more, in place of the one that was kept before, so that the next one is made in
+    /// Keeps a picture that is needed no more, in place of one that was kept before, so that the next one is made in
     /// its planes.
     pub fn give_room(&mut self, picture: Picture)
         ensures { self.new ≡ self.old }

@@ -83,8 +83,8 @@ struct Finished<'a, S> {
 /// The most pictures that are read ahead.
 const MOST_PICTURES_AHEAD: u32 = 8;
 
-/// How many pictures are read ahead for so many workers. One worker gains nothing by it. For sixteen even eight pictures
-/// are too few for a worker each, and none are read ahead, though inter pictures could be decoded at once by several.
+/// How many pictures are read ahead for so many workers. One worker gains nothing by it. For sixteen even eight are too
+/// few for a worker each, and none are read ahead, though inter pictures could be decoded at once by several.
 fn pictures_ahead(workers: u32) -> u32 {
     if workers == 1 || workers >= 2 * MOST_PICTURES_AHEAD {
         return 0;

@@ -48,7 +48,7 @@ fn rooms_of(picture: Option<Picture>) -> Rooms {
     }
 }
 
-/// The samples of a plane of an intra picture: its residual, clipped; where they can in the room that is given.
+/// The samples of a plane of an intra picture: its residual, clipped; made in the room given if that has their size.
 fn intra_samples(
     alloc: Global,
     sequence: &Sequence,
@@ -85,7 +85,7 @@ pub fn predicted_samples(
 }
 
 /// The samples of a plane of an inter picture, from planes of its references that are upconverted already: its residual
-/// and what they predict, clipped; where they can in the room that is given. Some rows are predicted at a time.
+/// and what they predict, clipped; made in the room given if that has their size. Some rows are predicted at a time.
 fn samples_with(
     alloc: Global,
     moved: &Moved<'_>,
@@ -118,8 +118,8 @@ fn samples_with(
     clipped_sum_by_rows(alloc, &residual, &MotionRows { motion, weights }, room)
 }
 
-/// The samples of a plane of an inter picture: its residual and what its references predict, clipped; where they can in
-/// the room that is given.
+/// The samples of a plane of an inter picture: its residual and what its references predict, clipped; made in the room
+/// given if that has their size.
 fn inter_samples(
     alloc: Global,
     moved: &Moved<'_>,
@@ -263,7 +263,7 @@ pub fn rebuild(
     rebuild_in(alloc, coded, sequence, refs, None)
 }
 
-/// The picture that `rebuild` gives, where it can in the planes of the one that is given, whatever these hold: planes of
+/// The picture that `rebuild` gives, made in the planes of the one that is given, whatever these hold: those that have
 /// the same size are written over, and no new ones are made and filled with zeros first.
 pub fn rebuild_in(
     alloc: Global,
